@@ -1,4 +1,4 @@
-use Rattle.std.specs.Prelude.{ℕ, Bool, ◌&&◌, ◌||◌, ◌==◌, List, length, nat_le, Option, Some, None, IsTrue, if◌then◌else◌}
+use Rattle.std.specs.Prelude.{◌≡◌, ◌↔◌, ℕ, Bool, ◌&&◌, ◌||◌, ◌==◌, List, length, nat_le, Option, Some, None, IsTrue, if◌then◌else◌}
 use Rattle.std.specs.List.{list_all}
 
 -- `a` to `z`, `0` to `9` or `_`
@@ -15,3 +15,7 @@ IsName bytes = IsTrue (is_name bytes)
 -- the name that a word spells, if it spells one
 unfoldable pub name_of : List ℕ → Option (List ℕ)
 name_of word = if is_name word then Some word else None
+
+-- a word spells itself where it is a name, and nothing else
+abbrev pub SpellsItself : Type 0
+SpellsItself = (word name : List ℕ) → (name_of word ≡ Some name) ↔ (IsName word × (name ≡ word))

@@ -9,7 +9,7 @@ mod seeds;
 mod splitting;
 
 pub use kinds::{FileKind, FileName, TableKey, law_file_text};
-pub use names::Name;
+pub use names::{Name, law_names};
 pub use numbers::{law_numbers, number, put_number};
 pub use seeds::{law_seeds, read_seed};
 pub use splitting::{law_lines, law_pieces, law_words, lines, words};

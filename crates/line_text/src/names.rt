@@ -1,7 +1,7 @@
 //! Names: 1 to 64 bytes out of `a` to `z`, `0` to `9` and `_`.
-ghost use Rattle.std.specs.Prelude.{◌≡◌, IfOk};
+ghost use Rattle.std.specs.Prelude.{◌≡◌, ◌≤◌, length, IfOk};
 ghost use Rattle.std.specs.List.{list_all};
-ghost use Rattle.line_text.specs.Names.{is_name_byte, is_name, IsName, name_of};
+ghost use Rattle.line_text.specs.Names.{is_name_byte, is_name, IsName, name_of, SpellsItself};
 
 use std::alloc::{AllocError, Global};
 use std::marker::Model;
@@ -38,9 +38,12 @@ impl Name {
     }
 
     /// The bytes of the name.
+    #[tactic(auto, using(crate::proofs::NameTests::length_of_name))]
     pub fn bytes(&self) -> &[u8]
         ensures value { result.now ≡ self.now }
         ensures name { IsName self.now }
+        ensures some_byte { 1 ≤ length self.now }
+        ensures short { length self.now ≤ 64 }
     {
         self.bytes.as_slice()
     }
@@ -74,6 +77,11 @@ impl Eq for Name {
 
     ghost laws = { nat_list_eq_equiv };
 }
+
+/// The law that a word spells itself where it is a name, and nothing else.
+pub fn law_names()
+    ensures { SpellsItself }
+{}
 
 #[tactic(auto, using(crate::proofs::NameTests::is_name_in_range), unfolding(crate::specs::Names::is_name))]
 fn is_name(word: &[u8]) -> bool
