@@ -54,7 +54,9 @@ impl FileKind {
 /// The name of a file: a name and a kind, as `k.sk`.
 #[derive(PartialEq, Eq, Debug, Drop)]
 pub struct FileName {
+    /// What stands before the extension.
     pub name: Name,
+    /// What the extension shows.
     pub kind: FileKind,
 }
 
@@ -100,17 +102,29 @@ pub fn law_file_text()
 /// that the grammar does not have.
 #[derive(Clone, Copy, PartialEq, Eq, Debug)]
 pub enum TableKey {
+    /// `m`: the cyclotomic index.
     M,
+    /// `p`: the plaintext modulus.
     P,
+    /// `factor`: the factor of the cyclotomic polynomial modulo p.
     Factor,
+    /// `dual`: the dual basis.
     Dual,
+    /// `generators`: the generators of the cube with their sizes.
     Generators,
+    /// `weight`: how many coefficients of a secret are not 0.
     Weight,
+    /// `digits`: the sizes of the groups of the chain.
     Digits,
+    /// `chain`: the moduli of the chain.
     Chain,
+    /// `special`: the special moduli.
     Special,
+    /// `inverse`: the inverses of the moduli modulo one another.
     Inverse,
+    /// `text`: the text as a whole.
     Text,
+    /// `other`: a key that the grammar does not have.
     Other,
 }
 
