@@ -1,3 +1,10 @@
 pub mod Euclid
 pub mod Divisors
 pub mod Units
+pub mod Basic
+pub mod Solver
+pub mod Integers
+pub mod Residues
+pub mod Held
+pub mod Ranges
+pub mod Powers

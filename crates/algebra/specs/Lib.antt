@@ -1,3 +1,4 @@
 pub mod Ring
 pub mod Range
 pub mod Divisor
+pub mod Power
