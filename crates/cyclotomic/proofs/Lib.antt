@@ -1,0 +1,4 @@
+pub mod Gauss
+pub mod Family
+pub mod Roots
+pub mod Images
