@@ -1,9 +1,13 @@
 -- A second family, at another element y: phi m divides its member at x^k for units k, and its member at a root of unity is 0.
-use Rattle.std.specs.Prelude.{◌≡◌, ℕ, zero, suc, ◌*◌ as ◌*ₙ◌, ◌<◌, ◌≤◌}
-use Rattle.std.proofs.Common.{sym, ◌∙◌, ap, subst, arith, zero-lt-suc, mul_comm, mul-pos}
+use Rattle.std.specs.Prelude.{◌≡◌, ℕ, zero, suc, ◌*◌ as ◌*ₙ◌, ◌<◌, ◌≤◌, Bool, true, false, cond, refl}
+use Rattle.std.proofs.Common.{sym, ◌∙◌, ap, ap₂, subst, arith, zero-lt-suc, mul_comm, mul-pos}
 use Rattle.algebra.specs.Ring.{CommRing}
+use Rattle.algebra.specs.Hom.{Hom}
+use Rattle.algebra.specs.Range.{muls}
+use Rattle.algebra.proofs.Homs.{map_less, map_power, map_muls}
+use Rattle.algebra.proofs.Ranges.{total_cong, mul_laws}
 use Rattle.algebra.specs.Power.{less, power, Divides, IsUnit}
-use Rattle.algebra.specs.Divisor.{HasInverse}
+use Rattle.algebra.specs.Divisor.{is_divisor, HasInverse}
 use Rattle.algebra.proofs.Basic.{mul_zero}
 use Rattle.algebra.proofs.Divisors.{larger_no}
 use Rattle.algebra.proofs.Units.{unit_cancels}
@@ -44,3 +48,21 @@ module _ (R : CommRing) (y : R.Carrier) (psi : ℕ → R.Carrier) where
       units : (i : ℕ) → i ≤ m → IsUnit R.ops (over_divisors R.ops psi (suc m) i)
       units zero q = (𝟙, sym (R.one_mul 𝟙))
       units (suc i) q = unit_product R (over_divisors R.ops psi (suc m) i) (part R.ops psi (suc m) i) (units i (omega arith)) (by_part R y psi (IsUnit R.ops) (suc m) i (λ d. unit_of_divisor R (psi (suc i)) (less R.ops (power R.ops y (suc i)) 𝟙) (member_divides R y psi i (law i (omega arith))) (root.at_divisors (suc i) (zero-lt-suc i) (omega arith) d)) (𝟙, sym (R.one_mul 𝟙)))
+
+-- a map of rings takes a family to one
+module _ (P S : CommRing) (F : Hom P S) (x : P.Carrier) (phi : ℕ → P.Carrier) where
+  abbrev image : ℕ → S.Carrier
+  image d = F.map (phi d)
+
+  image_part : (m i : ℕ) → F.map (part P.ops phi m i) ≡ part S.ops image m i
+  image_part m i = cases_of (is_divisor (suc i) m)
+    where
+      cases_of : (b : Bool) → F.map (cond b (phi (suc i)) P.one) ≡ cond b (image (suc i)) S.one
+      cases_of true = refl
+      cases_of false = F.map_one
+
+  image_over : (m n : ℕ) → F.map (over_divisors P.ops phi m n) ≡ over_divisors S.ops image m n
+  image_over m n = map_muls P S F n (part P.ops phi m) ∙ total_cong (muls S.ops) (mul_laws S) n (λ i. F.map (part P.ops phi m i)) (part S.ops image m) (λ i l. image_part m i)
+
+  pub image_law : (y : S.Carrier) → F.map x ≡ y → (m : ℕ) → IsProductAt P.ops x phi m → IsProductAt S.ops y image m
+  image_law y e m law = sym (image_over m m) ∙ ap F.map law ∙ map_less P S F (power P.ops x m) P.one ∙ ap₂ (less S.ops) (map_power P S F x m ∙ ap (λ z. power S.ops z m) e) F.map_one
