@@ -7,3 +7,6 @@ pub mod WholePolys
 pub mod Norms
 pub mod Modulo
 pub mod NormLaws
+pub mod NormMaps
+pub mod Coefficients
+pub mod DualBasis

@@ -31,7 +31,7 @@ split_is n f b = same whole_numbers (fun_ext at) ∙ cons_is (f 0) n (tail f) (B
     at (suc i) = refl
 
 -- the last coefficient taken out
-last_is : (k : ℕ) (g : Whole) (b : Below whole_numbers (suc k) g) → poly whole_numbers (suc k) g b ≡ poly whole_numbers k (first k g) (Below-first k g) ⊕ constant whole_ring (g k) ⊗ power whole_polys.ops indeterminate k
+pub last_is : (k : ℕ) (g : Whole) (b : Below whole_numbers (suc k) g) → poly whole_numbers (suc k) g b ≡ poly whole_numbers k (first k g) (Below-first k g) ⊕ constant whole_ring (g k) ⊗ power whole_polys.ops indeterminate k
 last_is zero g b = split_is 0 g b ∙ ap (λ z. constant whole_ring (g 0) ⊕ indeterminate ⊗ z) none ∙ solve2 whole_polys (λ c x. c :+ x :* :0) (λ c x. :0 :+ c :* :1) refl (constant whole_ring (g 0)) indeterminate ∙ ap (λ z. z ⊕ constant whole_ring (g 0) ⊗ 𝟙) empty
   where
     empty : 𝟘 ≡ poly whole_numbers 0 (first 0 g) (Below-first 0 g)
@@ -41,12 +41,12 @@ last_is zero g b = split_is 0 g b ∙ ap (λ z. constant whole_ring (g 0) ⊕ in
     none = same whole_numbers (Below-zero whole_ring (tail g) (Below-tail whole_ring 0 g b))
 last_is (suc k) g b = split_is (suc k) g b ∙ ap (λ z. constant whole_ring (g 0) ⊕ indeterminate ⊗ z) (last_is k (tail g) (Below-tail whole_ring (suc k) g b)) ∙ solve whole_polys (env 𝟘 (constant whole_ring (g 0) ∷ indeterminate ∷ poly whole_numbers k (first k (tail g)) (Below-first k (tail g)) ∷ constant whole_ring (g (suc k)) ∷ power whole_polys.ops indeterminate k ∷ [])) (var 0 :+ var 1 :* (var 2 :+ var 3 :* var 4)) (var 0 :+ var 1 :* var 2 :+ var 3 :* (var 1 :* var 4)) refl ∙ ap (λ z. z ⊕ constant whole_ring (g (suc k)) ⊗ power whole_polys.ops indeterminate (suc k)) (sym (cons_is (g 0) k (first k (tail g)) (Below-first k (tail g)) (Below-first (suc k) g)))
 
--- a natural number times a polynomial, by its coefficients
+-- a number times a polynomial, by its coefficients
+pub constant_times : (a : ℤ) (j : ℕ) (f : Whole) (b : Below whole_numbers j f) → constant whole_ring a ⊗ poly whole_numbers j f b ≡ poly whole_numbers j (scaled whole_numbers a f) (Below-scaled whole_ring j a f b)
+constant_times a j f b = same whole_numbers (fun_ext (λ i. product-const whole_ring a f i))
+
 pub num_times : (n j : ℕ) (f : Whole) (b : Below whole_numbers j f) → num n ⊗ poly whole_numbers j f b ≡ poly whole_numbers j (scaled whole_numbers (pos n) f) (Below-scaled whole_ring j (pos n) f b)
 num_times n j f b = ap (λ z. z ⊗ poly whole_numbers j f b) (sym (map_number whole_ring whole_polys (constant_hom whole_ring) n) ∙ ap (constant whole_ring) (number_is n)) ∙ constant_times (pos n) j f b
-  where
-    constant_times : (a : ℤ) (j : ℕ) (f : Whole) (b : Below whole_numbers j f) → constant whole_ring a ⊗ poly whole_numbers j f b ≡ poly whole_numbers j (scaled whole_numbers a f) (Below-scaled whole_ring j a f b)
-    constant_times a j f b = same whole_numbers (fun_ext (λ i. product-const whole_ring a f i))
 
 module _ (k : ℕ) (phi : WholePoly) (divides : Divides whole_polys.ops phi (less whole_polys.ops (power whole_polys.ops indeterminate (suc k)) 𝟙)) where
   abbrev alike : WholePoly → WholePoly → Type 0
