@@ -21,5 +21,8 @@ pub mod Values
 pub mod Maps
 pub mod HeldLists
 pub mod HeldQuotients
+pub mod HeldValues
 pub mod WholeResidues
+pub mod Balanced
 pub mod Chinese
+pub mod ChineseRows
