@@ -22,6 +22,7 @@ pub mod Maps
 pub mod HeldLists
 pub mod HeldQuotients
 pub mod HeldValues
+pub mod Over
 pub mod WholeResidues
 pub mod Balanced
 pub mod Chinese
