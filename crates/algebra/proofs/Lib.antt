@@ -21,6 +21,8 @@ pub mod Values
 pub mod Maps
 pub mod HeldLists
 pub mod HeldQuotients
+pub mod HeldPowers
+pub mod HeldRemainders
 pub mod HeldValues
 pub mod Over
 pub mod WholeResidues

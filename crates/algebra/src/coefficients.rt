@@ -1,19 +1,8 @@
 //! Laws of polynomials over every commutative ring, as lists of coefficients, the constant one first.
 
-ghost use Rattle.std.specs.Prelude.{Bool};
-ghost use Rattle.algebra.specs.Ring.{Ops, HeldLaws};
-ghost use Rattle.algebra.specs.Laws.{SumLaw, ProductLaw, SubstitutionLaw, SubstitutionKeeps, ValueLaw, EvaluationLaw, DivisionLaw, QuotientLaw};
+ghost use Rattle.algebra.specs.Laws.{SumLaw, ProductLaw, SubstitutionLaw, SubstitutionKeeps, ValueLaw, EvaluationLaw, DivisionLaw, RemainderLaw, QuotientLaw};
 
-/// Any commutative ring: its elements are those of a carrier that are held. No code computes in it.
-pub trait AnyRing {
-    ghost Val: { Type 0 };
-
-    ghost held: { Val → Bool };
-
-    ghost ops: { Ops Val };
-
-    ghost laws: { HeldLaws held ops };
-}
+use crate::rings::AnyRing;
 
 /// The coefficients of a sum of polynomials are the sums of theirs.
 pub fn law_sum<R: AnyRing>()
@@ -50,6 +39,12 @@ pub fn law_evaluation<R: AnyRing>()
 /// quotient of as many as `f` has more, and no other pair of lists is that.
 pub fn law_division<R: AnyRing>()
     ensures { DivisionLaw R.held R.ops }
+{}
+
+/// The remainder by a monic `g` keeps sums, keeps products up to a further remainder, sees the coefficients alone, and
+/// leaves a list of as many places as the degree of `g` as it is.
+pub fn law_remainder<R: AnyRing>()
+    ensures { RemainderLaw R.held R.ops }
 {}
 
 /// The quotient ring: the lists of as many elements as the degree of the monic `g` are a commutative ring with one, under
