@@ -10,3 +10,6 @@ pub mod NormLaws
 pub mod NormMaps
 pub mod Coefficients
 pub mod DualBasis
+pub mod PhiLists
+pub mod RingR
+pub mod NormLists
