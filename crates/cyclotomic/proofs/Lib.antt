@@ -13,3 +13,5 @@ pub mod DualBasis
 pub mod PhiLists
 pub mod RingR
 pub mod NormLists
+pub mod Substitution
+pub mod PhiLaws

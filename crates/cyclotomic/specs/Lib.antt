@@ -4,4 +4,4 @@ pub mod Trace
 pub mod Cyclotomic
 pub mod Norm
 pub mod NormLaws
-pub mod Laws
+pub mod CyclotomicLaws
