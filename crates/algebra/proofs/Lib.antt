@@ -23,3 +23,4 @@ pub mod HeldLists
 pub mod HeldQuotients
 pub mod WholeResidues
 pub mod Chinese
+pub mod UnitList

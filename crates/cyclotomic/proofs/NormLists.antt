@@ -9,7 +9,7 @@ use borrow.Author.Differences.{up, down, same_in, sum_is_lem, product_is}
 use Rattle.algebra.specs.Ring.{whole_numbers}
 use Rattle.algebra.specs.Range.{total}
 use Rattle.algebra.specs.Power.{power, number}
-use Rattle.algebra.specs.Series.{tail, Below}
+use Rattle.algebra.specs.Series.{Below}
 use Rattle.algebra.specs.Poly.{coeff, plus, monomial}
 use Rattle.algebra.proofs.Integers.{whole_ring}
 use Rattle.algebra.proofs.Homs.{map_number}
@@ -18,6 +18,7 @@ use Rattle.algebra.proofs.Polynomials.{poly, same, constant, constant_hom}
 use Rattle.algebra.proofs.Spread as over
 use Rattle.algebra.proofs.Degrees.{Below-const}
 use Rattle.algebra.proofs.Lists.{Below-coeff, length-plus}
+use Rattle.cyclotomic.proofs.Listed.{listed, length-listed, listed_at}
 use Rattle.cyclotomic.specs.Cyclotomic.{degree, R, IsElement, fold, substituted, multiple}
 use Rattle.cyclotomic.specs.Norm.{one_norm, NormAtMost, greatest, height, IsBalanced}
 use Rattle.cyclotomic.specs.NormLaws.{SumIsBounded, ProductIsBounded, MultipleIsBounded, SubstitutionIsBounded, QuotientIsBounded, CoefficientIsBounded, RemainderIsBounded, BoundsGrow, BalancedIsOnly}
@@ -38,21 +39,12 @@ one_norm_is : (f : List ℤ) → one_norm f ≡ norm (length f) (coeff whole_num
 one_norm_is [] = refl
 one_norm_is (a ∷ f) = ap (λ z. nat_abs a + z) (one_norm_is f) ∙ sym (norm_first (length f) (coeff whole_numbers (a ∷ f)))
 
--- the first n places of a series
-listed : ℕ → Whole → List ℤ
-listed zero f = []
-listed (suc n) f = f 0 ∷ listed n (tail f)
-
-length-listed : (n : ℕ) (f : Whole) → length (listed n f) ≡ n
-unfolding listed
-length-listed zero f = refl
-length-listed (suc n) f = ap suc (length-listed n (tail f))
-
 coeff-listed : (n : ℕ) (f : Whole) → Below whole_numbers n f → (i : ℕ) → coeff whole_numbers (listed n f) i ≡ f i
-unfolding listed
-coeff-listed zero f b i = sym (b i (omega arith))
-coeff-listed (suc n) f b zero = refl
-coeff-listed (suc n) f b (suc i) = coeff-listed n (tail f) (λ j l. b (suc j) (omega arith)) i
+coeff-listed n f b i = go (cases_lt i n)
+  where
+    go : (i < n) ⊎ (n ≤ i) → coeff whole_numbers (listed n f) i ≡ f i
+    go (inl l) = listed_at n f (pos 0) i l
+    go (inr l) = Below-coeff whole_numbers (listed n f) i (omega (arith, length-listed n f)) ∙ sym (b i l)
 
 -- N * a, as a product of polynomials
 multiple_is : (n : ℕ) (a : List ℤ) → as_poly (multiple (pos n) a) ≡ whole_polys.mul (number whole_polys.ops n) (as_poly a)
