@@ -28,4 +28,5 @@ pub mod Over
 pub mod WholeResidues
 pub mod Balanced
 pub mod Chinese
+pub mod UnitList
 pub mod ChineseRows
