@@ -1,2 +1,9 @@
 pub mod Ring
+pub mod Hom
 pub mod Range
+pub mod Divisor
+pub mod Power
+pub mod Series
+pub mod Poly
+pub mod Whole
+pub mod Laws

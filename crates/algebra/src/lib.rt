@@ -1,9 +1,7 @@
-//! Definitions and laws of algebra: rings, sums and products over ranges.
+//! Definitions and laws of algebra: rings, sums and products over ranges, powers and divisors, polynomials, quotient
+//! rings, residues of whole numbers. Nothing here computes: each function is a law, and its clause says it.
 #![tactic(auto)]
 
-ghost use Rattle.algebra.specs.Range.{MonoidLaws, counts};
-
-/// Sums of natural numbers are sums over a commutative operation with a unit.
-pub fn law_counts()
-    ensures { MonoidLaws counts }
-{}
+pub mod coefficients;
+pub mod numbers;
+pub mod rings;
