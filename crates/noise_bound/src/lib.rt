@@ -1,0 +1,6 @@
+//! Bounds.
+#![tactic(auto)]
+
+mod rounding;
+
+pub use rounding::{Bound, law_rounding};
