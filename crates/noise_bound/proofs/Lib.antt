@@ -1,2 +1,3 @@
 pub mod RoundingLaws
+pub mod Steps
 pub mod Words

@@ -30,13 +30,17 @@ bit_length x = x - count_leading_zeros x x
 unfoldable pub exponent : ℕ → ℕ
 exponent x = bit_length x - 32
 
+-- the binary digits that fit, as a number
+abbrev pub mantissa : ℕ → ℕ
+mantissa x = x / 2 ^ exponent x
+
 -- the number that IsUp has
 unfoldable pub up : ℕ → ℕ
-up x = let e = exponent x in div_ceil x (2 ^ e) * 2 ^ e
+up x = div_ceil x (2 ^ exponent x) * 2 ^ exponent x
 
 -- the number that IsDown has
 unfoldable pub down : ℕ → ℕ
-down x = let e = exponent x in x / 2 ^ e * 2 ^ e
+down x = mantissa x * 2 ^ exponent x
 
 abbrev pub plus : ℕ → ℕ → ℕ
 plus a b = up (a + b)

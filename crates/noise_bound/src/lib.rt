@@ -1,6 +1,9 @@
-//! Bounds.
+//! Worst-case bounds on noise: whole numbers `man * 2^exp` with a mantissa of 32 bits, rounded up or
+//! down, and the bounds that the steps of encryption and evaluation give.
 #![tactic(auto)]
 
+mod laws;
 mod rounding;
 
-pub use rounding::{Bound, law_rounding};
+pub use laws::{law_form, law_rounding};
+pub use rounding::Bound;

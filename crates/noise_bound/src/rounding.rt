@@ -1,5 +1,6 @@
-ghost use Rattle.std.specs.Prelude.{◌≡◌, ℕ, ◌+◌, ◌*◌, ◌<◌, ◌≤◌, ◌^◌, ◌↔◌, IsTrue};
-ghost use Rattle.noise_bound.specs.Rounding.{IsUp, IsDown, up, down, plus, times, scale, scale_down, over, ratio, half_over};
+ghost use Rattle.std.specs.Prelude.{◌≡◌, ◌+◌, ◌*◌, ◌/◌, ◌<◌, ◌≤◌, ◌^◌, ◌↔◌, IsTrue};
+ghost use Rattle.std.specs.Int.{div_ceil};
+ghost use Rattle.noise_bound.specs.Rounding.{up, down, plus, times, scale, scale_down, over, ratio, half_over};
 
 /// A whole number `man * 2^exp`.
 ///
@@ -11,13 +12,6 @@ pub struct Bound {
     ghost fits: { man < 2 ^ 32 },
     ghost normal: { 0 < exp → 2 ^ 31 ≤ man },
 }
-
-/// What rounding up and down is: `up(x)` is the least number `man * 2^exp` with `man` below 2^32
-/// that is at least `x`, and `down(x)` the greatest that is at most `x`.
-pub fn law_rounding()
-    ensures rounds_up { (x : ℕ) → IsUp x (up x) }
-    ensures rounds_down { (x : ℕ) → IsDown x (down x) }
-{}
 
 /// The same number with a longer first factor: as many of the powers of two as fit are moved into it.
 fn lifted(number: u128, exp: u32) -> (u128, u32)
@@ -74,6 +68,140 @@ impl Bound {
         Bound {
             man: (number >> cut) as u32,
             exp: exp + cut,
+        }
+    }
+
+    /// `number * 2^exp / divisor`, rounded up to a whole number and then to a bound.
+    fn quotient_up(number: u128, exp: u32, divisor: u64) -> Bound
+        requires small { exp < 2 ^ 31 }
+        requires divisor { 0 < divisor }
+        ensures { value result ≡ up (div_ceil (number * 2 ^ exp) divisor) }
+    {
+        let (number, exp) = lifted(number, exp);
+        Bound::rounded_up(number.div_ceil(divisor as u128), exp)
+    }
+
+    /// The sum of two bounds, the first of which has the higher power of two.
+    fn sum(high: Bound, low: Bound) -> Bound
+        requires small { high.exp < 2 ^ 31 }
+        requires ordered { low.exp ≤ high.exp }
+        ensures { value result ≡ plus (value high) (value low) }
+    {
+        let gap = high.exp - low.exp;
+        if gap < 64 {
+            let number = ((high.man as u128) << gap) + low.man as u128;
+            return Bound::rounded_up(number, low.exp);
+        }
+        // So far below, it counts only whether anything is there.
+        let number = high.man as u128 + low.man.min(1) as u128;
+        Bound::rounded_up(number, high.exp)
+    }
+
+    /// `x`, rounded up: the least number `man * 2^exp` that is at least `x`.
+    ///
+    /// `up(8589934591)` is `2147483648 * 2^2`.
+    pub fn up(x: u128) -> Bound
+        ensures { value result ≡ up x }
+    {
+        Bound::rounded_up(x, 0)
+    }
+
+    /// `x`, rounded down: the greatest number `man * 2^exp` that is at most `x`.
+    ///
+    /// `down(8589934591)` is `4294967295 * 2^1`.
+    pub fn down(x: u128) -> Bound
+        ensures { value result ≡ down x }
+    {
+        Bound::rounded_down(x, 0)
+    }
+
+    /// The sum, rounded up.
+    pub fn plus(self, b: Bound) -> Bound
+        requires self_small { self.exp < 2 ^ 20 }
+        requires b_small { b.exp < 2 ^ 20 }
+        ensures { value result ≡ plus (value self) (value b) }
+    {
+        if self.exp < b.exp {
+            Bound::sum(b, self)
+        } else {
+            Bound::sum(self, b)
+        }
+    }
+
+    /// The product, rounded up.
+    pub fn times(self, b: Bound) -> Bound
+        requires self_small { self.exp < 2 ^ 20 }
+        requires b_small { b.exp < 2 ^ 20 }
+        ensures { value result ≡ times (value self) (value b) }
+    {
+        Bound::rounded_up(self.man as u128 * b.man as u128, self.exp + b.exp)
+    }
+
+    /// The product with a word, rounded up.
+    pub fn scale(self, k: u64) -> Bound
+        requires { self.exp < 2 ^ 20 }
+        ensures { value result ≡ scale (value self) k }
+    {
+        Bound::rounded_up(self.man as u128 * k as u128, self.exp)
+    }
+
+    /// The product with a word, rounded down.
+    pub fn scale_down(self, k: u64) -> Bound
+        requires { self.exp < 2 ^ 20 }
+        ensures { value result ≡ scale_down (value self) k }
+    {
+        Bound::rounded_down(self.man as u128 * k as u128, self.exp)
+    }
+
+    /// The exact quotient `self * factor / modulus`, rounded up to a whole number, and that rounded up.
+    ///
+    /// It is 0 only where `self` or `factor` is 0.
+    pub fn over(self, factor: u64, modulus: u64) -> Bound
+        requires small { self.exp < 2 ^ 20 }
+        requires divisor { 0 < modulus }
+        ensures { value result ≡ over (value self) factor modulus }
+    {
+        let number = self.man as u128 * factor as u128;
+        Bound::quotient_up(number, self.exp, modulus)
+    }
+
+    /// The exact quotient `self / b`, rounded up to a whole number, and that rounded up.
+    ///
+    /// It is 1 where `b` is far above `self`, and 0 only where `self` is 0.
+    pub fn ratio(self, b: Bound) -> Bound
+        requires self_small { self.exp < 2 ^ 20 }
+        requires b_small { b.exp < 2 ^ 20 }
+        requires divisor { 0 < value b }
+        ensures { value result ≡ ratio (value self) (value b) }
+    {
+        if self.exp < b.exp {
+            // `b` is above `self`.
+            return Bound {
+                man: self.man.min(1),
+                exp: 0,
+            };
+        }
+        Bound::quotient_up(self.man as u128, self.exp - b.exp, b.man as u64)
+    }
+
+    /// The exact quotient `self / (2 h)`, rounded down to a whole number, and that rounded down.
+    pub fn half_over(self, h: u32) -> Bound
+        requires small { self.exp < 2 ^ 20 }
+        requires divisor { 0 < h }
+        ensures { value result ≡ half_over (value self) h }
+    {
+        let (number, exp) = lifted(self.man as u128, self.exp);
+        Bound::rounded_down(number / (2 * h as u128), exp)
+    }
+
+    /// Whether the number is at least that of `b`.
+    pub fn at_least(self, b: Bound) -> bool
+        ensures { IsTrue result ↔ (value b ≤ value self) }
+    {
+        if self.exp == b.exp {
+            self.man >= b.man
+        } else {
+            self.exp > b.exp
         }
     }
 }
