@@ -1,10 +1,10 @@
 -- The calls of a bound, on plain numbers: man * 2^exp is a, and likewise for b.
-use Rattle.std.proofs.Common.{lit<, lit≤, add-one, ◌≡◌, ℕ, suc, ◌+◌, ◌-◌, ◌*◌, ◌/◌, ◌%◌, ◌^◌, ◌<◌, ◌≤◌, ◌⊎◌, inl, inr, refl, sym, ap, ◌∙◌, arith, min}
-use Rattle.std.proofs.Math.Nat.{pow-suc, mul-le-mul_right, mul-le-mul_left, mul-lt-mul_of_pos_right, le_of_mul-le-mul_right, le-div_iff_mul-le, le_antisymm, mod-eq_of_lt, mul-one, mul_right_comm, mul-mul-mul_comm, mul-pos, pow-le-pow_right, mul_assoc, mul_comm, le_trans, lt_of_lt_of_le, pos_of_ne-zero, mul-div_cancel}
+use Rattle.std.proofs.Common.{lit<, lit≤, add-one, ◌≡◌, ℕ, suc, ◌+◌, ◌-◌, ◌*◌, ◌/◌, ◌%◌, ◌^◌, ◌<◌, ◌≤◌, ◌⊎◌, inl, inr, refl, sym, ap, ◌∙◌, arith, min, max}
+use Rattle.std.proofs.Math.Nat.{pow-suc, mul-le-mul, mul-le-mul_right, mul-le-mul_left, mul-lt-mul_of_pos_right, le_of_mul-le-mul_right, le-div_iff_mul-le, le_antisymm, mod-eq_of_lt, mul-one, mul_right_comm, mul-mul-mul_comm, mul-pos, pow-le-pow_right, mul_assoc, mul_comm, le_trans, lt_of_lt_of_le, pos_of_ne-zero, mul-div_cancel}
 use Rattle.std.proofs.lemmas.Nat.{pow_pos, pow-add, pow_below, mul-lt}
 use Rattle.std.specs.Int.{div_ceil}
 use Rattle.noise_bound.specs.Rounding.{IsFloating, up, down, exponent, mantissa}
-use Rattle.noise_bound.proofs.RoundingLaws.{IsExponent, exponent_is, div_ceil_le, le-div_ceil, le_or_above, up-leading, up-quotient, down-quotient, up-floating, IsFloating-small}
+use Rattle.noise_bound.proofs.RoundingLaws.{IsExponent, exponent_is, div_ceil_le, le-div_ceil, le_or_above, up-leading, up-quotient, down-quotient, up-floating, up-le, down-le, IsFloating-small}
 
 -- ---- one form
 
@@ -149,3 +149,53 @@ ratio_far am ae bm be ordered fits normal =
     ap (λ z. div_ceil z b) start ∙ div_ceil-sum 0 a b pos under ∙ omega (arith, there_by_power am (2 ^ ae) (pow_pos ae)) in
     let least : up (min am 1) ≡ min am 1 = up-floating (min am 1) (IsFloating-small (min am 1) (omega arith)) in
     mul-one (min am 1) ∙ sym least ∙ sym (ap up one)
+
+-- ---- how large an exponent is
+
+-- the mantissa of an exponent above 0 is full, so a larger exponent is a larger number
+pub exp_le : (man exp k : ℕ) → (0 < exp → 2 ^ 31 ≤ man) → man * 2 ^ exp < 2 ^ 32 * 2 ^ k → exp ≤ k
+exp_le man exp k normal h =
+    elim (le_or_above exp k) [
+      | inl small ↦ small
+      | inr large ↦
+          let power : 2 ^ suc k ≤ 2 ^ exp = pow-le-pow_right (lit< tt) large in
+          let full : 2 ^ 31 * 2 ^ exp ≤ man * 2 ^ exp = mul-le-mul_right (2 ^ exp) (normal (omega arith)) in
+          absurd (omega (arith, power, full, h, pow-suc 2 k))
+    ]
+
+pub exp_of_up : (man exp k x : ℕ) → (0 < exp → 2 ^ 31 ≤ man) → man * 2 ^ exp ≡ up x → x ≤ 4294967295 * 2 ^ k → exp ≤ k
+exp_of_up man exp k x normal is h =
+    let most : up x ≤ 4294967295 * 2 ^ k = up-le x (4294967295 * 2 ^ k) (record { man = 4294967295; exp = k; fits = lit< tt; is = refl }) h in
+    exp_le man exp k normal (omega (arith, is, most, pow_pos k))
+
+pub exp_of_down : (man exp k x : ℕ) → (0 < exp → 2 ^ 31 ≤ man) → man * 2 ^ exp ≡ down x → x < 2 ^ 32 * 2 ^ k → exp ≤ k
+exp_of_down man exp k x normal is h = exp_le man exp k normal (omega (arith, is, down-le x, h))
+
+pub number_le : (a e : ℕ) → a < 2 ^ 32 → a * 2 ^ e ≤ 4294967295 * 2 ^ e
+number_le a e fits = mul-le-mul_right (2 ^ e) (omega arith)
+
+-- the product of a bound and a word
+pub product_le : (a e k : ℕ) → a < 2 ^ 32 → k < 2 ^ 64 → a * 2 ^ e * k ≤ 4294967295 * 2 ^ (e + 64)
+product_le a e k fits word =
+    let most : k ≤ 2 ^ 64 = omega arith in
+    omega (arith, mul-le-mul (number_le a e fits) most, mul_assoc 4294967295 (2 ^ e) (2 ^ 64), pow-add 2 e 64)
+
+-- the product of two bounds
+pub times_le : (a e b f : ℕ) → a < 2 ^ 32 → b < 2 ^ 32 → a * 2 ^ e * (b * 2 ^ f) ≤ 4294967295 * 2 ^ (e + f + 32)
+times_le a e b f fits fits' =
+    let first : a * b ≤ 4294967295 * 2 ^ 32 = mul-le-mul {n₁ = a} {m₁ = 4294967295} {n₂ = b} {m₂ = 2 ^ 32} (omega arith) (omega arith) in
+    let both : a * b * 2 ^ (e + f) ≤ 4294967295 * 2 ^ 32 * 2 ^ (e + f) = mul-le-mul_right (2 ^ (e + f)) first in
+    let apart : a * 2 ^ e * (b * 2 ^ f) ≡ a * b * 2 ^ (e + f) = mul-mul-mul_comm a (2 ^ e) b (2 ^ f) ∙ ap (λ z. a * b * z) (sym (pow-add 2 e f)) in
+    omega (arith, both, apart, pow-add 2 (e + f) 32)
+
+-- the sum of two bounds
+pub plus_le : (a e b f : ℕ) → a < 2 ^ 32 → b < 2 ^ 32 → a * 2 ^ e + b * 2 ^ f ≤ 4294967295 * 2 ^ (max e f + 1)
+plus_le a e b f fits fits' =
+    let m = max e f in
+    let one : 2 ^ e ≤ 2 ^ m = pow-le-pow_right (lit< tt) (omega arith) in
+    let two : 2 ^ f ≤ 2 ^ m = pow-le-pow_right (lit< tt) (omega arith) in
+    let next : 2 ^ (m + 1) ≡ 2 * 2 ^ m = pow-add 2 m 1 ∙ mul_comm (2 ^ m) 2 in
+    omega (arith, number_le a e fits, number_le b f fits', one, two, next)
+
+pub div_ceil_le_self : (x d : ℕ) → 0 < d → div_ceil x d ≤ x
+div_ceil_le_self x d pos = div_ceil_le x d x pos (omega (arith, mul-le-mul_left x pos))

@@ -1,4 +1,4 @@
-ghost use Rattle.std.specs.Prelude.{◌≡◌, ◌+◌, ◌*◌, ◌/◌, ◌<◌, ◌≤◌, ◌^◌, ◌↔◌, IsTrue};
+ghost use Rattle.std.specs.Prelude.{◌≡◌, ◌+◌, ◌*◌, ◌/◌, ◌<◌, ◌≤◌, ◌^◌, ◌↔◌, IsTrue, max};
 ghost use Rattle.std.specs.Int.{div_ceil};
 ghost use Rattle.noise_bound.specs.Rounding.{up, down, plus, times, scale, scale_down, over, ratio, half_over};
 
@@ -101,7 +101,8 @@ impl Bound {
     ///
     /// `up(8589934591)` is `2147483648 * 2^2`.
     pub fn up(x: u128) -> Bound
-        ensures { value result ≡ up x }
+        ensures number { value result ≡ up x }
+        ensures small { result.exp ≤ 97 }
     {
         Bound::rounded_up(x, 0)
     }
@@ -110,7 +111,8 @@ impl Bound {
     ///
     /// `down(8589934591)` is `4294967295 * 2^1`.
     pub fn down(x: u128) -> Bound
-        ensures { value result ≡ down x }
+        ensures number { value result ≡ down x }
+        ensures small { result.exp ≤ 96 }
     {
         Bound::rounded_down(x, 0)
     }
@@ -119,7 +121,8 @@ impl Bound {
     pub fn plus(self, b: Bound) -> Bound
         requires self_small { self.exp < 2 ^ 20 }
         requires b_small { b.exp < 2 ^ 20 }
-        ensures { value result ≡ plus (value self) (value b) }
+        ensures number { value result ≡ plus (value self) (value b) }
+        ensures small { result.exp ≤ max self.exp b.exp + 1 }
     {
         if self.exp < b.exp {
             Bound::sum(b, self)
@@ -132,7 +135,8 @@ impl Bound {
     pub fn times(self, b: Bound) -> Bound
         requires self_small { self.exp < 2 ^ 20 }
         requires b_small { b.exp < 2 ^ 20 }
-        ensures { value result ≡ times (value self) (value b) }
+        ensures number { value result ≡ times (value self) (value b) }
+        ensures small { result.exp ≤ self.exp + b.exp + 32 }
     {
         Bound::rounded_up(self.man as u128 * b.man as u128, self.exp + b.exp)
     }
@@ -140,7 +144,8 @@ impl Bound {
     /// The product with a word, rounded up.
     pub fn scale(self, k: u64) -> Bound
         requires { self.exp < 2 ^ 20 }
-        ensures { value result ≡ scale (value self) k }
+        ensures number { value result ≡ scale (value self) k }
+        ensures small { result.exp ≤ self.exp + 64 }
     {
         Bound::rounded_up(self.man as u128 * k as u128, self.exp)
     }
@@ -148,7 +153,8 @@ impl Bound {
     /// The product with a word, rounded down.
     pub fn scale_down(self, k: u64) -> Bound
         requires { self.exp < 2 ^ 20 }
-        ensures { value result ≡ scale_down (value self) k }
+        ensures number { value result ≡ scale_down (value self) k }
+        ensures small { result.exp ≤ self.exp + 64 }
     {
         Bound::rounded_down(self.man as u128 * k as u128, self.exp)
     }
@@ -159,7 +165,8 @@ impl Bound {
     pub fn over(self, factor: u64, modulus: u64) -> Bound
         requires small { self.exp < 2 ^ 20 }
         requires divisor { 0 < modulus }
-        ensures { value result ≡ over (value self) factor modulus }
+        ensures number { value result ≡ over (value self) factor modulus }
+        ensures small { result.exp ≤ self.exp + 64 }
     {
         let number = self.man as u128 * factor as u128;
         Bound::quotient_up(number, self.exp, modulus)
@@ -172,7 +179,8 @@ impl Bound {
         requires self_small { self.exp < 2 ^ 20 }
         requires b_small { b.exp < 2 ^ 20 }
         requires divisor { 0 < value b }
-        ensures { value result ≡ ratio (value self) (value b) }
+        ensures number { value result ≡ ratio (value self) (value b) }
+        ensures small { result.exp ≤ self.exp }
     {
         if self.exp < b.exp {
             // `b` is above `self`.
@@ -188,7 +196,8 @@ impl Bound {
     pub fn half_over(self, h: u32) -> Bound
         requires small { self.exp < 2 ^ 20 }
         requires divisor { 0 < h }
-        ensures { value result ≡ half_over (value self) h }
+        ensures number { value result ≡ half_over (value self) h }
+        ensures small { result.exp ≤ self.exp }
     {
         let (number, exp) = lifted(self.man as u128, self.exp);
         Bound::rounded_down(number / (2 * h as u128), exp)
