@@ -183,7 +183,7 @@ product_le a e k fits word =
 -- the product of two bounds
 pub times_le : (a e b f : ℕ) → a < 2 ^ 32 → b < 2 ^ 32 → a * 2 ^ e * (b * 2 ^ f) ≤ 4294967295 * 2 ^ (e + f + 32)
 times_le a e b f fits fits' =
-    let first : a * b ≤ 4294967295 * 2 ^ 32 = mul-le-mul {n₁ = a} {m₁ = 4294967295} {n₂ = b} {m₂ = 2 ^ 32} (omega arith) (omega arith) in
+    let first : a * b ≤ 4294967295 * 2 ^ 32 = mul-le-mul {n₁ = a} {m₁ = b} {n₂ = 4294967295} {m₂ = 2 ^ 32} (omega arith) (omega arith) in
     let both : a * b * 2 ^ (e + f) ≤ 4294967295 * 2 ^ 32 * 2 ^ (e + f) = mul-le-mul_right (2 ^ (e + f)) first in
     let apart : a * 2 ^ e * (b * 2 ^ f) ≡ a * b * 2 ^ (e + f) = mul-mul-mul_comm a (2 ^ e) b (2 ^ f) ∙ ap (λ z. a * b * z) (sym (pow-add 2 e f)) in
     omega (arith, both, apart, pow-add 2 (e + f) 32)

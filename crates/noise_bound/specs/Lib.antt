@@ -1,2 +1,5 @@
+pub mod Groups
+pub mod Machine
 pub mod Rounding
+pub mod Table
 pub mod Value
