@@ -137,7 +137,7 @@ ratio_near am ae bm be ordered pos =
 
 -- the divisor is larger
 pub ratio_far : (am ae bm be : ℕ) → ae < be → am < 2 ^ 32 → (0 < be → 2 ^ 31 ≤ bm)
-    → min am 1 * 2 ^ 0 ≡ up (div_ceil (am * 2 ^ ae) (bm * 2 ^ be))
+    → min am 1 ≡ up (div_ceil (am * 2 ^ ae) (bm * 2 ^ be))
 ratio_far am ae bm be ordered fits normal =
     let a = am * 2 ^ ae in
     let b = bm * 2 ^ be in
@@ -148,7 +148,7 @@ ratio_far am ae bm be ordered fits normal =
     let one : div_ceil a b ≡ min am 1 =
     ap (λ z. div_ceil z b) start ∙ div_ceil-sum 0 a b pos under ∙ omega (arith, there_by_power am (2 ^ ae) (pow_pos ae)) in
     let least : up (min am 1) ≡ min am 1 = up-floating (min am 1) (IsFloating-small (min am 1) (omega arith)) in
-    mul-one (min am 1) ∙ sym least ∙ sym (ap up one)
+    sym least ∙ sym (ap up one)
 
 -- ---- how large an exponent is
 

@@ -60,6 +60,14 @@ pub record IsBalanced (n x : ℕ) (r : ℤ) : Type 0 where
   pub above : neg_ℤ (pos n) <ℤ (pos 2 *ℤ r)
   pub at_most : (pos 2 *ℤ r) ≤ℤ pos n
 
+-- what a group of digits adds when keys are switched: k times the group's product, over the special one
+unfoldable pub group_added : ℕ → ℕ → List ℕ → ℕ
+group_added k special g = ratio (times k (product_up g)) special
+
+-- the sum over the groups that these moduli have
+unfoldable pub groups_added : ℕ → ℕ → List ℕ → List ℕ → ℕ
+groups_added k special digits qs = fold plus 0 (map (group_added k special) (groups digits qs))
+
 module _ (t : Sizes) where
   -- of a fresh cipher
   unfoldable pub fresh : ℕ
@@ -71,7 +79,6 @@ module _ (t : Sizes) where
 
   -- above it an operand is settled
   unfoldable pub settled : ℕ
-  unfolding divided
   settled = plus divided divided
 
   -- the product of q_0 to q_level, rounded down
@@ -82,13 +89,10 @@ module _ (t : Sizes) where
   unfoldable pub limit : ℕ → ℕ
   limit level = half_over (modulus_of level) t.height
 
-  -- what a group of digits adds when keys are switched
-  unfoldable pub group_switched : List ℕ → ℕ
-  group_switched g = ratio (times (up (5 * t.p * t.n * t.n)) (product_up g)) (product_down t.special)
-
-  -- what switching keys adds at a level: the sum over the groups that the level has
+  -- what switching keys adds at a level, which has the chain's moduli up to its own
   unfoldable pub switched : ℕ → ℕ
-  switched level = fold plus 0 (map group_switched (groups t.digits (take (suc level) t.chain)))
+  switched level =
+      groups_added (up (5 * t.p * t.n * t.n)) (product_down t.special) t.digits (take (suc level) t.chain)
 
   -- after the drop from a level to the one below it
   unfoldable pub dropped : ℕ → ℕ → ℕ

@@ -1,9 +1,32 @@
 -- What a table of bounds holds.
-use Rattle.std.specs.Prelude.{◌≡◌, ℕ, ◌<◌, List, length, get_or}
+use Rattle.std.specs.Prelude.{◌≡◌, ℕ, ◌<◌, List, length, get_or, vec_len}
 use Rattle.noise_bound.specs.declared.rounding.Bound.{Bound}
-use Rattle.noise_bound.specs.Value.{value}
+use Rattle.noise_bound.specs.declared.table.BoundTable.TheInside.{Inside}
+use Rattle.noise_bound.specs.Machine.{Sizes, IsSizes, fresh, divided, settled, limit, switched}
+use Rattle.noise_bound.specs.Value.{Stands, AreBounds}
 
--- the bounds are those of f, place by place
-pub record AreBounds (f : ℕ → ℕ) (bs : List Bound) : Type 0 where
-  pub at : (i : ℕ) (b : Bound) → i < length bs → b ≡ get_or bs i b → value b ≡ f i
-  pub small : (i : ℕ) (b : Bound) → i < length bs → b ≡ get_or bs i b → b.exp < 4096
+-- what a table is made from
+abbrev pub sizes_of : Inside → Sizes
+sizes_of a = record {
+  n = a.n;
+  p = a.p;
+  weight = a.weight;
+  height = a.height;
+  chain = a.chain.items;
+  special = a.special.items;
+  digits = a.digits.items;
+}
+
+-- the bounds that are kept are those of these sizes
+pub record HoldsBoundsOf (t : Sizes) (a : Inside) : Type 0 where
+  pub sizes : IsSizes t
+  pub first : Stands a.first (fresh t)
+  pub division : Stands a.division (divided t)
+  pub rest : Stands a.rest (settled t)
+  pub limits_len : vec_len a.limits ≡ length t.chain
+  pub limits : AreBounds (limit t) a.limits.items
+  pub switches_len : vec_len a.switches ≡ length t.chain
+  pub switches : AreBounds (switched t) a.switches.items
+
+abbrev pub IsTable : Inside → Type 0
+IsTable a = HoldsBoundsOf (sizes_of a) a

@@ -4,6 +4,8 @@
 
 mod laws;
 mod rounding;
+mod table;
 
 pub use laws::{law_form, law_rounding};
 pub use rounding::Bound;
+pub use table::BoundTable;

@@ -97,6 +97,14 @@ impl Bound {
         Bound::rounded_up(number, high.exp)
     }
 
+    /// A number that fits a mantissa.
+    pub(crate) fn of_word(man: u32) -> Bound
+        ensures number { value result ≡ man }
+        ensures small { result.exp ≡ 0 }
+    {
+        Bound { man, exp: 0 }
+    }
+
     /// `x`, rounded up: the least number `man * 2^exp` that is at least `x`.
     ///
     /// `up(8589934591)` is `2147483648 * 2^2`.
@@ -184,10 +192,7 @@ impl Bound {
     {
         if self.exp < b.exp {
             // `b` is above `self`.
-            return Bound {
-                man: self.man.min(1),
-                exp: 0,
-            };
+            return Bound::of_word(self.man.min(1));
         }
         Bound::quotient_up(self.man as u128, self.exp - b.exp, b.man as u64)
     }

@@ -8,7 +8,7 @@ returns-then-self-b c =
     let a = c.args.self in
     let b = c.args.b in
     record {
-      number = ap (λ z. z * 2 ^ 0) c.min.ensures ∙ ratio_far a.man a.exp b.man b.exp c.if-self-b.true a.fits b.normal;
+      number = c.of_word.ensures.number ∙ c.min.ensures ∙ ratio_far a.man a.exp b.man b.exp c.if-self-b.true a.fits b.normal;
       small = omega arith;
     }
 
