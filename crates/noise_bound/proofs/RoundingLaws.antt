@@ -1,7 +1,7 @@
 -- What rounding up and down does, from the binary digits to the quotients.
-use Rattle.std.proofs.Common.{lit<, lit≤, ◌≡◌, ℕ, suc, ◌+◌, ◌-◌, ◌*◌, ◌/◌, ◌%◌, ◌^◌, ◌<◌, ◌≤◌, ◌⊎◌, inl, inr, refl, sym, ap, ◌∙◌, arith, subst}
-use Rattle.std.proofs.Math.Nat.{pow-suc, mul-le-mul_right, mul-le-mul_left, mul-le-mul, mul-lt-mul_of_pos_right, le_of_mul-le-mul_right, le-div_iff_mul-le, div-lt_iff_lt-mul, div-mul-le_self, div-div-eq-div-mul, mul-div-mul_right, pow-le-pow_right, mul_assoc, mul_comm, mul_right_comm, mul-one, mul-pos, le_antisymm, le_refl, lt_of_mul-lt-mul_right, le_trans, lt_of_le_of_lt, lt_of_lt_of_le}
-use Rattle.std.proofs.lemmas.Nat.{pow_pos, pow-add, pow_below, leading_length}
+use Rattle.std.proofs.Common.{lit<, ◌≡◌, ℕ, suc, ◌+◌, ◌-◌, ◌*◌, ◌/◌, ◌^◌, ◌<◌, ◌≤◌, ◌⊎◌, inl, inr, refl, sym, ap, ◌∙◌, arith, subst}
+use Rattle.std.proofs.Math.Nat.{pow-suc, mul-le-mul_right, mul-lt-mul_of_pos_right, le_of_mul-le-mul_right, le-div_iff_mul-le, div-lt_iff_lt-mul, div-mul-le_self, div-div-eq-div-mul, mul-div-mul_right, pow-le-pow_right, mul_assoc, mul-one, le_antisymm, le_refl, lt_of_mul-lt-mul_right, le_trans}
+use Rattle.std.proofs.lemmas.Nat.{pow_pos, pow-add, leading_length}
 use Rattle.std.proofs.lemmas.Grind.{div_ceil_times}
 use Rattle.std.specs.Int.{div_ceil}
 use Rattle.std.specs.Int.Count.{count_leading_zeros}

@@ -1,9 +1,9 @@
 -- The calls of a bound, on plain numbers: man * 2^exp is a, and likewise for b.
-use Rattle.std.proofs.Common.{lit<, lit≤, add-one, ◌≡◌, ℕ, suc, ◌+◌, ◌-◌, ◌*◌, ◌/◌, ◌%◌, ◌^◌, ◌<◌, ◌≤◌, ◌⊎◌, inl, inr, refl, sym, ap, ◌∙◌, arith, min, max}
-use Rattle.std.proofs.Math.Nat.{pow-suc, mul-le-mul, mul-le-mul_right, mul-le-mul_left, mul-lt-mul_of_pos_right, le_of_mul-le-mul_right, le-div_iff_mul-le, le_antisymm, mod-eq_of_lt, mul-one, mul_right_comm, mul-mul-mul_comm, mul-pos, pow-le-pow_right, mul_assoc, mul_comm, le_trans, lt_of_lt_of_le, pos_of_ne-zero, mul-div_cancel}
+use Rattle.std.proofs.Common.{lit<, lit≤, ◌≡◌, ℕ, suc, ◌+◌, ◌-◌, ◌*◌, ◌/◌, ◌%◌, ◌^◌, ◌<◌, ◌≤◌, inl, inr, refl, sym, ap, ◌∙◌, arith, min, max}
+use Rattle.std.proofs.Math.Nat.{pow-suc, mul-le-mul, mul-le-mul_right, mul-le-mul_left, mul-lt-mul_of_pos_right, le_of_mul-le-mul_right, le_antisymm, mod-eq_of_lt, mul-mul-mul_comm, mul-pos, pow-le-pow_right, mul_assoc, mul_comm, lt_of_lt_of_le, mul-div_cancel}
 use Rattle.std.proofs.lemmas.Nat.{pow_pos, pow-add, pow_below, mul-lt}
 use Rattle.std.specs.Int.{div_ceil}
-use Rattle.noise_bound.specs.Rounding.{IsFloating, up, down, exponent, mantissa}
+use Rattle.noise_bound.specs.Rounding.{up, down, exponent, mantissa}
 use Rattle.noise_bound.proofs.RoundingLaws.{IsExponent, exponent_is, div_ceil_le, le-div_ceil, le_or_above, up-leading, up-quotient, down-quotient, up-floating, up-le, down-le, IsFloating-small}
 
 -- ---- one form

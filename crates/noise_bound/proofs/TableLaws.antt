@@ -1,5 +1,5 @@
 -- What the loops of a table keep, and the bound of a drop.
-use Rattle.std.proofs.Common.{lit<, lit≤, ◌≡◌, ℕ, suc, ◌+◌, ◌-◌, ◌*◌, ◌/◌, ◌%◌, ◌^◌, ◌<◌, ◌≤◌, ◌⊎◌, inl, inr, List, [], ◌∷◌, ◌++◌, length, length-append, get_or, take, drop, fold, map, add-one, refl, sym, ap, subst, ◌∙◌, arith, min, max, nat_abs}
+use Rattle.std.proofs.Common.{lit≤, ◌≡◌, ℕ, suc, ◌+◌, ◌-◌, ◌*◌, ◌%◌, ◌<◌, ◌≤◌, inl, inr, List, [], ◌∷◌, ◌++◌, length, length-append, get_or, take, drop, fold, map, add-one, refl, sym, ap, subst, ◌∙◌, arith, min, nat_abs}
 use Rattle.std.proofs.Math.Nat.{mul-le-mul_left}
 use Rattle.std.proofs.Math.Seq.{get_or-append_seam}
 use Rattle.std.proofs.Math.ListN.{get_or-append}

@@ -1,5 +1,5 @@
 -- Rounding on words of 128 bits.
-use Rattle.std.proofs.Common.{lit<, lit≤, ◌≡◌, ℕ, suc, ◌+◌, ◌-◌, ◌*◌, ◌/◌, ◌%◌, ◌^◌, ◌<◌, ◌≤◌, ◌⊎◌, inl, inr, refl, sym, ap, ◌∙◌, arith, min}
+use Rattle.std.proofs.Common.{lit<, ◌≡◌, ℕ, suc, ◌+◌, ◌-◌, ◌*◌, ◌/◌, ◌%◌, ◌^◌, ◌<◌, ◌≤◌, inl, inr, sym, ap, ◌∙◌, arith, min}
 use Rattle.std.proofs.Math.Nat.{mul-le-mul_right, mul-le-mul_left, mul-lt-mul_of_pos_right, le_of_mul-le-mul_right, le-div_iff_mul-le, mod-eq_of_lt, pow-le-pow_right, mul_assoc, mul_comm, le_trans}
 use Rattle.std.proofs.lemmas.Nat.{pow_pos, pow-add, leading_length, leading_top}
 use Rattle.std.specs.Int.{div_ceil}

@@ -2,4 +2,5 @@ pub mod Groups
 pub mod Machine
 pub mod Rounding
 pub mod Table
+pub mod Text
 pub mod Value

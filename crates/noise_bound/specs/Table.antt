@@ -1,6 +1,5 @@
 -- What a table of bounds holds.
-use Rattle.std.specs.Prelude.{◌≡◌, ℕ, ◌<◌, List, length, get_or, vec_len}
-use Rattle.noise_bound.specs.declared.rounding.Bound.{Bound}
+use Rattle.std.specs.Prelude.{◌≡◌, length, vec_len}
 use Rattle.noise_bound.specs.declared.table.BoundTable.TheInside.{Inside}
 use Rattle.noise_bound.specs.Machine.{Sizes, IsSizes, fresh, divided, settled, limit, switched}
 use Rattle.noise_bound.specs.Value.{Stands, AreBounds}

@@ -1,4 +1,7 @@
-ghost use Rattle.std.specs.Prelude.{◌≡◌, ℕ, ◌<◌, ◌≤◌};
+ghost use Rattle.std.specs.Prelude.{◌≡◌, ℕ, ◌<◌, ◌≤◌, List, length, sum};
+ghost use Rattle.std.specs.List.{All};
+ghost use Rattle.noise_bound.specs.Groups.{IsGroups, groups};
+ghost use Rattle.noise_bound.specs.Machine.{IsBalanced, balanced};
 ghost use Rattle.noise_bound.specs.Rounding.{IsFloating, IsUp, IsDown, up, down, mantissa, exponent};
 ghost use Rattle.noise_bound.specs.Value.{value};
 ghost use Rattle.noise_bound.specs.declared.rounding.Bound.{Bound as TheBound};
@@ -19,4 +22,15 @@ pub fn law_form()
     ensures exp { (b : TheBound) → b.exp ≡ exponent (value b) }
     ensures man { (b : TheBound) → b.man ≡ mantissa (value b) }
     ensures floating { (b : TheBound) → IsFloating (value b) }
+{}
+
+/// What the groups of a list are: they join to it, none is empty, and each but the last is full.
+pub fn law_groups()
+    ensures { (sizes xs : List ℕ) → All (λ d. 0 < d) sizes → length xs ≤ sum sizes
+        → IsGroups sizes xs (groups sizes xs) }
+{}
+
+/// What the balanced residue modulo `n` is: it is congruent, above `-n/2` and at most `n/2`.
+pub fn law_balanced()
+    ensures { (n x : ℕ) → 0 < n → IsBalanced n x (balanced n x) }
 {}

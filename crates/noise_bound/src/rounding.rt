@@ -1,6 +1,8 @@
-ghost use Rattle.std.specs.Prelude.{◌≡◌, ◌+◌, ◌*◌, ◌/◌, ◌<◌, ◌≤◌, ◌^◌, ◌↔◌, IsTrue, max};
+ghost use Rattle.std.specs.Prelude.{◌≡◌, ◌+◌, ◌*◌, ◌/◌, ◌<◌, ◌≤◌, ◌^◌, ◌↔◌, IsTrue, max, Some};
 ghost use Rattle.std.specs.Int.{div_ceil};
 ghost use Rattle.noise_bound.specs.Rounding.{up, down, plus, times, scale, scale_down, over, ratio, half_over};
+
+use std::fmt;
 
 /// A whole number `man * 2^exp`.
 ///
@@ -216,6 +218,21 @@ impl Bound {
             self.man >= b.man
         } else {
             self.exp > b.exp
+        }
+    }
+}
+
+/// `man`, or `man*2^exp` where `exp` is not 0.
+impl fmt::Display for Bound {
+    ghost use Rattle.noise_bound.specs.Text.{text_of};
+
+    ghost output = { λ b. Some (text_of b) };
+
+    fn fmt<W: fmt::Write>(&self, f: &mut fmt::Formatter<W>) -> fmt::Result {
+        if self.exp == 0 {
+            write!(f, "{}", self.man)
+        } else {
+            write!(f, "{}*2^{}", self.man, self.exp)
         }
     }
 }

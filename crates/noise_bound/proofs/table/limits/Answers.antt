@@ -1,4 +1,4 @@
-use Rattle.std.proofs.Common.{◌≡◌, add-one, arith, suc, get_or, take, length, ap, sym, ◌∙◌, ◌*◌}
+use Rattle.std.proofs.Common.{◌≡◌, add-one, arith, suc, get_or, take, length, ap, sym, ◌∙◌}
 use Rattle.std.proofs.lemmas.Grind.{common_steps}
 use Rattle.noise_bound.specs.Machine.{product_down}
 use Rattle.noise_bound.specs.Rounding.{half_over, scale_down}

@@ -1,4 +1,4 @@
-use Rattle.std.proofs.Common.{◌≡◌, ◌*◌, ◌≤◌, take, fold}
+use Rattle.std.proofs.Common.{◌≡◌, ◌*◌, ◌≤◌, take}
 use Rattle.noise_bound.specs.Machine.{product_up}
 use Rattle.noise_bound.specs.Value.{value}
 use Rattle.noise_bound.proofs.table.product_up.Given as goal

@@ -1,4 +1,4 @@
-use Rattle.std.proofs.Common.{arith, inl, inr, ◌<◌, ◌*◌, ◌^◌}
+use Rattle.std.proofs.Common.{arith, inl, inr, ◌<◌}
 use Rattle.std.proofs.lemmas.Bool.{leb-true, le-leb, ltb-true, lt-ltb}
 use Rattle.noise_bound.proofs.RoundingLaws.{le_or_above}
 use Rattle.noise_bound.proofs.Steps.{order_by_man, man_by_order, above_by_power}

@@ -1,4 +1,4 @@
-use Rattle.std.proofs.Common.{◌∙◌, arith, ◌*◌, ◌^◌, ◌/◌}
+use Rattle.std.proofs.Common.{◌∙◌, arith, ◌*◌, ◌^◌}
 use Rattle.std.proofs.Math.Nat.{div-le_self}
 use Rattle.std.proofs.lemmas.Nat.{pow_pos}
 use Rattle.noise_bound.proofs.Steps.{half_over_is, exp_of_down, number_le}

@@ -1,4 +1,4 @@
-use Rattle.std.proofs.Common.{◌∙◌, ap, arith, ◌+◌, ◌*◌, ◌^◌, max}
+use Rattle.std.proofs.Common.{◌∙◌, ap, ◌+◌, ◌*◌, ◌^◌, max}
 use Rattle.std.proofs.Math.Nat.{add_comm}
 use Rattle.noise_bound.specs.Rounding.{up}
 use Rattle.noise_bound.proofs.Steps.{exp_of_up, plus_le}

@@ -1,4 +1,4 @@
-use Rattle.std.proofs.Common.{◌∙◌, ap, arith, ◌^◌, ◌*◌}
+use Rattle.std.proofs.Common.{◌∙◌, arith, ◌^◌, ◌*◌}
 use Rattle.std.proofs.Math.Nat.{le_trans}
 use Rattle.noise_bound.proofs.Steps.{ratio_near, ratio_far, factor_pos, exp_of_up, number_le, div_ceil_le_self}
 use Rattle.noise_bound.proofs.rounding.Bound.ratio.Goals as goal

@@ -1,4 +1,4 @@
-use Rattle.std.proofs.Common.{◌≡◌, ◌<◌, length, ap, subst, sym, ◌∙◌, arith}
+use Rattle.std.proofs.Common.{◌≡◌, ◌<◌, length, subst, sym, arith}
 use Rattle.std.proofs.Math.Nat.{mod-le}
 use Rattle.noise_bound.specs.Machine.{Sizes, IsModulus, dropped}
 use Rattle.noise_bound.specs.Value.{value}

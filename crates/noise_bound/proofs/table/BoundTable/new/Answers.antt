@@ -1,4 +1,4 @@
-use Rattle.std.proofs.Common.{◌∙◌, ap, sym, length, arith}
+use Rattle.std.proofs.Common.{arith}
 use Rattle.noise_bound.specs.Machine.{Sizes, fresh, divided}
 use Rattle.noise_bound.proofs.TableLaws.{IsTable-of_copies, limits_are, switches_are, settled_is}
 use Rattle.noise_bound.proofs.table.BoundTable.new.Goals as goal
