@@ -12,7 +12,7 @@ use Rattle.noise_bound.specs.declared.rounding.Bound.{Bound}
 use Rattle.noise_bound.specs.Rounding.{IsFloating, up, down, plus, times, over, ratio, scale_down, half_over}
 use Rattle.noise_bound.specs.declared.table.BoundTable.TheInside.{Inside}
 use Rattle.noise_bound.specs.Table.{HoldsBoundsOf, IsTable}
-use Rattle.noise_bound.specs.Value.{value, Stands, AreBounds}
+use Rattle.noise_bound.specs.Value.{value, IsBoundOf, AreBounds}
 use Rattle.noise_bound.proofs.BalancedLaws.{abs-balanced}
 use Rattle.noise_bound.proofs.GroupLaws.{fold-groups}
 use Rattle.noise_bound.proofs.RoundingLaws.{IsDown-down, IsFloating-small, up-le, div_ceil_le, le_or_above}
@@ -22,13 +22,13 @@ use Rattle.noise_bound.proofs.Steps.{above_by_power}
 pub down_pos : (x : ℕ) → 0 < x → 0 < down x
 down_pos x some = (IsDown-down x).greatest 1 (IsFloating-small 1 (lit≤ tt)) some
 
-pub AreBounds-push : (f : ℕ → ℕ) (bs : List Bound) (b : Bound) → AreBounds f bs → Stands b (f (length bs)) → AreBounds f (bs ++ b ∷ [])
+pub AreBounds-push : (f : ℕ → ℕ) (bs : List Bound) (b : Bound) → AreBounds f bs → IsBoundOf b (f (length bs)) → AreBounds f (bs ++ b ∷ [])
 AreBounds-push f bs b all last i d in_range is =
     elim (le_or_above (length bs) i) [
       | inl at_end ↦
           let same : i ≡ length bs = omega (arith, in_range, length-append bs (b ∷ [])) in
           let value_there : d ≡ b = is ∙ ap (λ k. get_or (bs ++ b ∷ []) k d) same ∙ get_or-append_seam bs b [] d in
-          subst (λ k. Stands d (f k)) (sym same) (subst (λ z. Stands z (f (length bs))) (sym value_there) last)
+          subst (λ k. IsBoundOf d (f k)) (sym same) (subst (λ z. IsBoundOf z (f (length bs))) (sym value_there) last)
       | inr before ↦ all i d before (is ∙ get_or-append bs (b ∷ []) d i before)
     ]
 

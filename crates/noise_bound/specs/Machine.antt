@@ -43,7 +43,7 @@ pub record IsSizes (t : Sizes) : Type 0 where
   pub digits_some : All (λ d. 0 < d) t.digits
   pub digits_sum : sum t.digits ≡ length t.chain
 
--- a product that is rounded at each factor: it starts as 1
+-- a product that is rounded at each factor; it starts as 1, so that its first step rounds the first factor
 abbrev pub product_up : List ℕ → ℕ
 product_up qs = fold scale 1 qs
 
@@ -81,11 +81,11 @@ module _ (t : Sizes) where
   unfoldable pub settled : ℕ
   settled = plus divided divided
 
-  -- the product of q_0 to q_level, rounded down
+  -- the product of q_0 to q_level, rounded down at each
   unfoldable pub modulus_of : ℕ → ℕ
   modulus_of level = product_down (take (suc level) t.chain)
 
-  -- a bound below it is one under which decryption is right
+  -- a cipher of this level is too noisy where its bound is at least this
   unfoldable pub limit : ℕ → ℕ
   limit level = half_over (modulus_of level) t.height
 

@@ -2,7 +2,7 @@
 use Rattle.std.specs.Prelude.{◌≡◌, length, vec_len}
 use Rattle.noise_bound.specs.declared.table.BoundTable.TheInside.{Inside}
 use Rattle.noise_bound.specs.Machine.{Sizes, IsSizes, fresh, divided, settled, limit, switched}
-use Rattle.noise_bound.specs.Value.{Stands, AreBounds}
+use Rattle.noise_bound.specs.Value.{IsBoundOf, AreBounds}
 
 -- what a table is made from
 abbrev pub sizes_of : Inside → Sizes
@@ -19,9 +19,9 @@ sizes_of a = record {
 -- the bounds that are kept are those of these sizes
 pub record HoldsBoundsOf (t : Sizes) (a : Inside) : Type 0 where
   pub sizes : IsSizes t
-  pub first : Stands a.first (fresh t)
-  pub division : Stands a.division (divided t)
-  pub rest : Stands a.rest (settled t)
+  pub first : IsBoundOf a.first (fresh t)
+  pub division : IsBoundOf a.division (divided t)
+  pub rest : IsBoundOf a.rest (settled t)
   pub limits_len : vec_len a.limits ≡ length t.chain
   pub limits : AreBounds (limit t) a.limits.items
   pub switches_len : vec_len a.switches ≡ length t.chain

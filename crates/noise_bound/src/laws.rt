@@ -22,6 +22,7 @@ pub fn law_form()
     ensures exp { (b : TheBound) → b.exp ≡ exponent (value b) }
     ensures man { (b : TheBound) → b.man ≡ mantissa (value b) }
     ensures floating { (b : TheBound) → IsFloating (value b) }
+    ensures ordered { (a b : TheBound) → value a ≤ value b → a.exp ≤ b.exp }
 {}
 
 /// What the groups of a list are: they join to it, none is empty, and each but the last is full.

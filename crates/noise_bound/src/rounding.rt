@@ -6,13 +6,16 @@ use std::fmt;
 
 /// A whole number `man * 2^exp`.
 ///
-/// Each such number has one form: `exp` is 0, or `man` has its highest bit set.
+/// Each such number has one form, which the type keeps: `exp` is 0, or `man` has its highest bit set.
+/// So 5 is `Bound { man: 5, exp: 0 }`, and 2^32 is `Bound { man: 2147483648, exp: 1 }`.
+///
+/// The calls take bounds with an exponent below 2^20, and say how large that of the result may be.
 #[derive(Clone, Copy, Debug, PartialEq, Eq)]
 pub struct Bound {
     pub man: u32,
     pub exp: u32,
-    ghost fits: { man < 2 ^ 32 },
-    ghost normal: { 0 < exp → 2 ^ 31 ≤ man },
+    pub ghost fits: { man < 2 ^ 32 },
+    pub ghost normal: { 0 < exp → 2 ^ 31 ≤ man },
 }
 
 /// The same number with a longer first factor: as many of the powers of two as fit are moved into it.
@@ -127,7 +130,7 @@ impl Bound {
         Bound::rounded_down(x, 0)
     }
 
-    /// The sum, rounded up.
+    /// The sum, rounded up: 3 plus 2^40 is `2147483649 * 2^9`.
     pub fn plus(self, b: Bound) -> Bound
         requires self_small { self.exp < 2 ^ 20 }
         requires b_small { b.exp < 2 ^ 20 }
@@ -151,7 +154,7 @@ impl Bound {
         Bound::rounded_up(self.man as u128 * b.man as u128, self.exp + b.exp)
     }
 
-    /// The product with a word, rounded up.
+    /// The product with a word, rounded up: 2^31 by 3 is `3221225472 * 2^1`.
     pub fn scale(self, k: u64) -> Bound
         requires { self.exp < 2 ^ 20 }
         ensures number { value result ≡ scale (value self) k }

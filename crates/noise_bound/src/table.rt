@@ -3,7 +3,7 @@ ghost use Rattle.std.specs.Int.{div_ceil};
 ghost use Rattle.std.specs.List.{All};
 ghost use Rattle.noise_bound.specs.Machine.{Sizes, IsSizes, IsModulus, product_up, product_down, groups_added, fresh, divided, settled, limit, switched, dropped};
 ghost use Rattle.noise_bound.specs.Rounding.{up, half_over};
-ghost use Rattle.noise_bound.specs.Value.{value, Stands, AreBounds};
+ghost use Rattle.noise_bound.specs.Value.{value, IsBoundOf, AreBounds};
 
 use crate::rounding::Bound;
 use std::alloc::{AllocError, Global};
@@ -80,7 +80,7 @@ fn switched(factor: Bound, special: Bound, digits: &[u32], moduli: &[u64]) -> Bo
     requires divisor { 0 < value special }
     requires few { length moduli.now ≤ 32 }
     requires digits { All (λ d. 0 < d) digits.now }
-    ensures { Stands result (groups_added (value factor) (value special) digits.now moduli.now) }
+    ensures { IsBoundOf result (groups_added (value factor) (value special) digits.now moduli.now) }
 {
     let mut sum = Bound::of_word(0);
     let mut rest = moduli;
@@ -170,6 +170,10 @@ impl Model for BoundTable {
 
 impl BoundTable {
     /// The bounds of these sizes, where there is memory for them.
+    ///
+    /// `n` goes up to 65536, `p` from 2 to 131071, `weight` from 1 to `n`, and `height` from 1 to
+    /// 2^31 - 1. There are 1 to 32 moduli in `chain` and 1 to 16 in `special`, each from 3 to 2^62 - 1,
+    /// and the positive `digits` add up to the length of `chain`.
     pub fn new(
         alloc: Global,
         n: u32,
@@ -224,29 +228,29 @@ impl BoundTable {
 
     /// The bound of a fresh cipher.
     pub fn fresh(&self) -> Bound
-        ensures { Stands result (fresh self.now) }
+        ensures { IsBoundOf result (fresh self.now) }
     {
         self.first
     }
 
     /// What one division adds.
     pub fn switch_add(&self) -> Bound
-        ensures { Stands result (divided self.now) }
+        ensures { IsBoundOf result (divided self.now) }
     {
         self.division
     }
 
     /// The bound above which an operand is settled.
     pub fn settle(&self) -> Bound
-        ensures { Stands result (settled self.now) }
+        ensures { IsBoundOf result (settled self.now) }
     {
         self.rest
     }
 
-    /// The limit of a level: a cipher is decrypted rightly where its bound is below it.
+    /// The limit of a level: a cipher is too noisy where its bound is at least this.
     pub fn limit(&self, level: u32) -> Bound
         requires { level < length self.now.chain }
-        ensures { Stands result (limit self.now level) }
+        ensures { IsBoundOf result (limit self.now level) }
     {
         self.limits[level as usize]
     }
@@ -254,7 +258,7 @@ impl BoundTable {
     /// What switching keys adds at a level.
     pub fn key_switch(&self, level: u32) -> Bound
         requires { level < length self.now.chain }
-        ensures { Stands result (switched self.now level) }
+        ensures { IsBoundOf result (switched self.now level) }
     {
         self.switches[level as usize]
     }
