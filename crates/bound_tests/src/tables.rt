@@ -1,4 +1,4 @@
-ghost use Rattle.std.specs.Prelude.{◌≡◌, ◌<◌, ◌≤◌, ◌^◌, ◌↔◌, IsTrue, IfOk, length, sum};
+ghost use Rattle.std.specs.Prelude.{◌≡◌, ◌+◌, ◌<◌, ◌≤◌, ◌^◌, ◌↔◌, IsTrue, IfOk, length, sum};
 ghost use Rattle.std.specs.List.{All};
 ghost use Rattle.noise_bound.specs.Machine.{IsModulus, IsSizes};
 
@@ -441,4 +441,145 @@ fn table_of(rt: &impl Abort, alloc: Global, case: &Case) -> Result<BoundTable, F
         case.special,
         case.digits,
     )?)
+}
+
+/// The bounds of a table: of a fresh cipher, of one division, and the one above which is settled.
+fn parts_of(table: &BoundTable) -> (Form, Form, Form) {
+    (
+        form_of(table.fresh()),
+        form_of(table.switch_add()),
+        form_of(table.settle()),
+    )
+}
+
+/// Of a level: its limit, and what switching keys adds.
+fn level_of(rt: &impl Abort, table: &BoundTable, levels: usize, level: usize) -> (Form, Form)
+    requires { levels ≡ length table.now.chain }
+{
+    assert!(rt; levels <= 32);
+    assert!(rt; level < levels);
+    let level = level as u32;
+    (
+        form_of(table.limit(level)),
+        form_of(table.key_switch(level)),
+    )
+}
+
+/// What 1086 and 4294967291 * 2^200 become by the drop from a level.
+fn dropped_at(rt: &impl Abort, table: &BoundTable, levels: usize, level: usize) -> (Form, Form)
+    requires { levels ≡ length table.now.chain }
+{
+    assert!(rt; levels <= 32);
+    assert!(rt; level < levels);
+    assert!(rt; level > 0);
+    let level = level as u32;
+    (
+        form_of(table.dropped(bound(rt, (1086, 0)), level)),
+        form_of(table.dropped(bound(rt, (4294967291, 200)), level)),
+    )
+}
+
+fn check_case(rt: &impl Abort, alloc: Global, case: &Case) -> Result<(), Fail> {
+    let table = table_of(rt, alloc, case)?;
+    let levels = case.chain.len();
+    let wanted = (case.fresh, case.switch_add, case.settle);
+    assert_eq!(rt; parts_of(&table), wanted);
+    assert_eq!(rt;
+        (case.limits.len(), case.key_switches.len()),
+        (levels, levels)
+    );
+    for (level, (limit, key_switch)) in case.limits.iter().zip(case.key_switches).enumerate() {
+        let wanted = (*limit, *key_switch);
+        assert_eq!(rt;
+            level_of(rt, &table, levels, level),
+            wanted,
+            "level {level}"
+        );
+    }
+    for (place, (fresh, large)) in case
+        .dropped_fresh
+        .iter()
+        .zip(case.dropped_large)
+        .enumerate()
+    {
+        let wanted = (*fresh, *large);
+        assert!(rt; place < 32);
+        assert_eq!(rt;
+            dropped_at(rt, &table, levels, place + 1),
+            wanted,
+            "place {place}"
+        );
+    }
+    Ok(())
+}
+
+#[test]
+fn holds_the_bounds_of_each_table(rt: HostRuntime) -> Result<(), Fail> {
+    for case in &CASES {
+        check_case(&rt, rt.alloc(), case)?;
+    }
+    Ok(())
+}
+
+/// A product of two settled bounds at a level.
+fn product_of(table: &BoundTable, a: Bound, b: Bound, level: u32) -> Bound
+    requires in_range { level < length table.now.chain }
+    requires a_small { a.exp < 30000 }
+    requires b_small { b.exp < 30000 }
+    ensures { result.exp ≤ a.exp + b.exp + 5000 }
+{
+    a.times(b)
+        .plus(table.key_switch(level))
+        .plus(table.switch_add())
+}
+
+/// The bounds of a session on three moduli: `x * x`, its square, that plus `x`, an automorphism's
+/// image of `x`, and `x` plus and times a constant of 1-norm 4.
+fn session_of(table: &BoundTable) -> (Form, Form, Form, Form, Form, Form)
+    requires { 2 < length table.now.chain }
+{
+    let fresh = table.fresh();
+    let four = Bound::up(4);
+    let settled = table.dropped(fresh, 2);
+    let product = product_of(table, settled, settled, 1);
+    let lowered = table.dropped(product, 1);
+    let square = product_of(table, lowered, lowered, 0);
+    let image = fresh.plus(table.key_switch(2)).plus(table.switch_add());
+    (
+        form_of(product),
+        form_of(square),
+        form_of(square.plus(table.dropped(settled, 1))),
+        form_of(image),
+        form_of(fresh.plus(four)),
+        form_of(settled.times(four)),
+    )
+}
+
+#[test]
+fn follows_a_session(rt: HostRuntime) -> Result<(), Fail> {
+    let case = &CASES[0];
+    let table = table_of(&rt, rt.alloc(), case)?;
+    assert!(rt; case.chain.len() == 3);
+    let wanted = ((813, 0), (812, 0), (840, 0), (1116, 0), (1090, 0), (112, 0));
+    assert_eq!(rt; session_of(&table), wanted);
+    Ok(())
+}
+
+#[test]
+fn doubles_up_to_the_limit(rt: HostRuntime) -> Result<(), Fail> {
+    let case = &CASES[0];
+    let table = table_of(&rt, rt.alloc(), case)?;
+    assert!(rt; case.chain.len() == 3);
+    let mut sum = bound(&rt, (812, 0));
+    for _ in 0..18 {
+        assert!(rt; sum.exp < 4096);
+        sum = sum.plus(sum);
+    }
+    assert_eq!(rt; form_of(sum), (212860928, 0));
+    assert!(rt; !sum.at_least(table.limit(0)));
+    assert!(rt; sum.exp < 4096);
+    let last = sum.plus(sum);
+    assert_eq!(rt; form_of(last), (425721856, 0));
+    assert!(rt; last.at_least(table.limit(0)));
+    Ok(())
 }
