@@ -1,0 +1,6 @@
+pub mod BalancedLaws
+pub mod GroupLaws
+pub mod RoundingLaws
+pub mod Steps
+pub mod TableLaws
+pub mod Words
