@@ -1,3 +1,4 @@
 pub mod Links
 pub mod Paths
+pub mod Answering
 pub mod RingLemmas
