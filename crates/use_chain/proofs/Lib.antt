@@ -1,4 +1,6 @@
 pub mod Links
 pub mod Paths
 pub mod Answering
+pub mod Merging
 pub mod RingLemmas
+pub mod Unlinking
