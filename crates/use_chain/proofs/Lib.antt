@@ -1,3 +1,4 @@
+pub mod Building
 pub mod Links
 pub mod Paths
 pub mod Answering

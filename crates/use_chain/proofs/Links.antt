@@ -1,5 +1,5 @@
 -- What the links are after one node was made to follow another.
-use Rattle.std.proofs.Common.{◌≡◌, ◌≢◌, ℕ, ◌<◌, List, length, set, ◌⊎◌, inl, inr, refl, sym, ap, subst, ◌∙◌, arith, length-set}
+use Rattle.std.proofs.Common.{◌≡◌, ◌≢◌, ℕ, ◌<◌, List, length, set, inl, inr, sym, ap, subst, ◌∙◌, arith, length-set}
 use Rattle.std.proofs.lemmas.Bool.{cases_eq}
 use Rattle.std.proofs.lemmas.List.{get_or-set_same, get_or-set_other}
 use Rattle.use_chain.specs.declared.Node.{Node}
@@ -12,7 +12,6 @@ pub record Relinks (f g f' g' : ℕ → ℕ) (a b : ℕ) : Type 0 where
   pub other_ahead : (k : ℕ) → k ≢ a → f' k ≡ f k
   pub other_back : (k : ℕ) → k ≢ b → g' k ≡ g k
 
-
 -- one write of `next`
 next-write : (ns : List Node) (a b : ℕ) → a < length ns → next_of (set ns a (record (node_at ns a) { next = b })) a ≡ b
 next-write ns a b h = ap (λ (n : Node). n.next) (get_or-set_same ns a (record (node_at ns a) { next = b }) (record { next = 0; prev = 0 }) h)
@@ -23,7 +22,7 @@ next-write_other ns a b k h = ap (λ (n : Node). n.next) (get_or-set_other ns a 
 prev-write_next : (ns : List Node) (a b k : ℕ) → a < length ns → prev_of (set ns a (record (node_at ns a) { next = b })) k ≡ prev_of ns k
 prev-write_next ns a b k h =
     elim (cases_eq k a) [
-      inl e ↦ subst (λ j. prev_of (set ns a (record (node_at ns a) { next = b })) j ≡ prev_of ns j) (sym e) (ap (λ (n : Node). n.prev) (get_or-set_same ns a (record (node_at ns a) { next = b }) (record { next = 0; prev = 0 }) h))
+      | inl e ↦ subst (λ j. prev_of (set ns a (record (node_at ns a) { next = b })) j ≡ prev_of ns j) (sym e) (ap (λ (n : Node). n.prev) (get_or-set_same ns a (record (node_at ns a) { next = b }) (record { next = 0; prev = 0 }) h))
       | inr ne ↦ ap (λ (n : Node). n.prev) (get_or-set_other ns a k (record (node_at ns a) { next = b }) (record { next = 0; prev = 0 }) ne)
     ]
 
@@ -37,7 +36,7 @@ prev-write_other ns b a k h = ap (λ (n : Node). n.prev) (get_or-set_other ns b 
 next-write_prev : (ns : List Node) (b a k : ℕ) → b < length ns → next_of (set ns b (record (node_at ns b) { prev = a })) k ≡ next_of ns k
 next-write_prev ns b a k h =
     elim (cases_eq k b) [
-      inl e ↦ subst (λ j. next_of (set ns b (record (node_at ns b) { prev = a })) j ≡ next_of ns j) (sym e) (ap (λ (n : Node). n.next) (get_or-set_same ns b (record (node_at ns b) { prev = a }) (record { next = 0; prev = 0 }) h))
+      | inl e ↦ subst (λ j. next_of (set ns b (record (node_at ns b) { prev = a })) j ≡ next_of ns j) (sym e) (ap (λ (n : Node). n.next) (get_or-set_same ns b (record (node_at ns b) { prev = a }) (record { next = 0; prev = 0 }) h))
       | inr ne ↦ ap (λ (n : Node). n.next) (get_or-set_other ns b k (record (node_at ns b) { prev = a }) (record { next = 0; prev = 0 }) ne)
     ]
 

@@ -25,9 +25,9 @@ IsIn-middle k x l r h = elim (IsIn-append_cases k l r h) [ inl i ↦ IsIn-append
 
 pub IsIn-middle_cases : (k x : ℕ) (l r : List ℕ) → IsIn k (l ++ x ∷ r) → (k ≡ x) ⊎ IsIn k (l ++ r)
 IsIn-middle_cases k x l r h = elim (IsIn-append_cases k l (x ∷ r) h) [
-    inl i ↦ inr (IsIn-append_left k l r i)
-    | inr i ↦ elim i [ inl e ↦ inl e | inr j ↦ inr (IsIn-append_right k l r j) ]
-  ]
+  | inl i ↦ inr (IsIn-append_left k l r i)
+  | inr i ↦ elim i [ inl e ↦ inl e | inr j ↦ inr (IsIn-append_right k l r j) ]
+]
 
 -- ---- ascending lists
 
@@ -82,10 +82,10 @@ head_or z (k ∷ ks) = k
 pub path_frame : (f g f' g' : ℕ → ℕ) (a z : ℕ) (ks : List ℕ) → ((k : ℕ) → (k ≡ a) ⊎ IsIn k ks → f' k ≡ f k) → ((k : ℕ) → (k ≡ z) ⊎ IsIn k ks → g' k ≡ g k) → Path f g a ks z → Path f' g' a ks z
 path_frame f g f' g' a z [] sf sg p = (sf a (inl refl) ∙ p.0, sg z (inl refl) ∙ p.1)
 path_frame f g f' g' a z (x ∷ ks) sf sg p = (
-    sf a (inl refl) ∙ p.0,
-    sg x (inr (inl refl)) ∙ p.1,
-    path_frame f g f' g' x z ks (λ k h. sf k (inr h)) (λ k h. elim h [ inl e ↦ sg k (inl e) | inr i ↦ sg k (inr (inr i)) ]) p.2
-  )
+  sf a (inl refl) ∙ p.0,
+  sg x (inr (inl refl)) ∙ p.1,
+  path_frame f g f' g' x z ks (λ k h. sf k (inr h)) (λ k h. elim h [ inl e ↦ sg k (inl e) | inr i ↦ sg k (inr (inr i)) ]) p.2,
+)
 
 -- the two parts of a path through x
 pub path_to : (f g : ℕ → ℕ) (a x z : ℕ) (l r : List ℕ) → Path f g a (l ++ x ∷ r) z → Path f g a l x
@@ -125,61 +125,61 @@ pub path_cut : (f g f' g' : ℕ → ℕ) (low high a x z : ℕ) (l r : List ℕ)
 path_cut f g f' g' low high a x z [] [] link rise hz fresh p q =
     (ap f' (sym p.1) ∙ link.ahead ∙ q.0, ap g' (sym q.0) ∙ link.back ∙ p.1)
 path_cut f g f' g' low high a x z [] (y ∷ ys) link rise hz fresh p q = (
-    ap f' (sym p.1) ∙ link.ahead ∙ q.0,
-    ap g' (sym q.0) ∙ link.back ∙ p.1,
-    path_frame f g f' g' y z ys
-    (λ k h. link.other_ahead k (λ e. fresh k (inr h) (e ∙ p.1)))
-    (λ k h. link.other_back k (λ e. let at_y : k ≡ y = e ∙ q.0 in
+  ap f' (sym p.1) ∙ link.ahead ∙ q.0,
+  ap g' (sym q.0) ∙ link.back ∙ p.1,
+  path_frame f g f' g' y z ys
+      (λ k h. link.other_ahead k (λ e. fresh k (inr h) (e ∙ p.1)))
+      (λ k h. link.other_back k (λ e. let at_y : k ≡ y = e ∙ q.0 in
       elim h [ inl ez ↦ omega (arith, at_y, ez, hz, rise.2.1) | inr i ↦ omega (arith, at_y, rising_low (suc y) high k ys rise.2.2 i) ]))
-    q.2
-  )
+      q.2,
+)
 path_cut f g f' g' low high a x z (b ∷ l) r link rise hz fresh p q =
     let x_above : suc b ≤ x = rising_low (suc b) high x (l ++ x ∷ r) rise.2 (IsIn-append_right x l (x ∷ r) (inl refl)) in
-    let after_x : f x ≡ head_or z r = path_first f g x z r q in
-    (
+    let after_x : f x ≡ head_or z r = path_first f g x z r q in (
       link.other_ahead a (λ e. let same : b ≡ x = sym p.0 ∙ ap f e ∙ path_end f g b x l p.2 in omega (arith, same, x_above)) ∙ p.0,
       link.other_back b (λ e. let same : b ≡ head_or z r = e ∙ after_x in
-        elim (head_or_cases z r) [
-          inl ez ↦ omega (arith, same, ez, hz, rise.1)
-          | inr i ↦ omega (arith, same, rising_low (suc x) high (head_or z r) r (rising_after (suc b) high x l r rise.2) i, x_above)
-        ]) ∙ p.1,
-      path_cut f g f' g' (suc b) high b x z l r link rise.2 hz (λ k h e. omega (arith, e, rising_low (suc b) high k (l ++ x ∷ r) rise.2 h)) p.2 q
+          elim (head_or_cases z r) [
+            | inl ez ↦ omega (arith, same, ez, hz, rise.1)
+            | inr i ↦ omega (arith, same, rising_low (suc x) high (head_or z r) r (rising_after (suc b) high x l r rise.2) i, x_above)
+          ]) ∙ p.1,
+      path_cut f g f' g' (suc b) high b x z l r link rise.2 hz (λ k h e. omega (arith, e, rising_low (suc b) high k (l ++ x ∷ r) rise.2 h)) p.2 q,
     )
 
 -- a path with x, which was put before the node at
 pub path_put : (f g f₁ g₁ f₂ g₂ : ℕ → ℕ) (low high a x z at : ℕ) (l r : List ℕ) → at ≡ head_or z r → Relinks f g f₁ g₁ (g at) x → Relinks f₁ g₁ f₂ g₂ x at → Rising low (l ++ x ∷ r) high → high ≤ z → ((k : ℕ) → IsIn k (l ++ x ∷ r) → k ≢ a) → Path f g a (l ++ r) z → Path f₂ g₂ a (l ++ x ∷ r) z
 path_put f g f₁ g₁ f₂ g₂ low high a x z at [] [] is_at one two rise hz fresh p =
-    let before : g at ≡ a = ap g is_at ∙ p.1 in
-    (
+    let before : g at ≡ a = ap g is_at ∙ p.1 in (
       two.other_ahead a (λ e. fresh x (inl refl) (sym e)) ∙ ap f₁ (sym before) ∙ one.ahead,
       two.other_back x (λ e. omega (arith, e, is_at, hz, rise.1)) ∙ one.back ∙ before,
-      (two.ahead ∙ is_at, ap g₂ (sym is_at) ∙ two.back)
+      (two.ahead ∙ is_at, ap g₂ (sym is_at) ∙ two.back),
     )
 path_put f g f₁ g₁ f₂ g₂ low high a x z at [] (y ∷ ys) is_at one two rise hz fresh p =
-    let before : g at ≡ a = ap g is_at ∙ p.1 in
-    (
+    let before : g at ≡ a = ap g is_at ∙ p.1 in (
       two.other_ahead a (λ e. fresh x (inl refl) (sym e)) ∙ ap f₁ (sym before) ∙ one.ahead,
       two.other_back x (λ e. omega (arith, e, is_at, rise.2.0)) ∙ one.back ∙ before,
-      (two.ahead ∙ is_at, ap g₂ (sym is_at) ∙ two.back, path_frame f g f₂ g₂ y z ys
-      (λ k h. two.other_ahead k (λ e. omega (arith, e, rising_low (suc x) high k (y ∷ ys) rise.2 h))
-        ∙ one.other_ahead k (λ e. fresh k (inr h) (e ∙ before)))
-      (λ k h. elim h [
-        inl ez ↦ two.other_back k (λ e. omega (arith, e, ez, is_at, hz, rise.2.1)) ∙ one.other_back k (λ e. omega (arith, e, ez, hz, rise.1))
-        | inr i ↦ let above = rising_low (suc y) high k ys rise.2.2 i in
-          two.other_back k (λ e. omega (arith, e, is_at, above)) ∙ one.other_back k (λ e. omega (arith, e, above, rise.2.0))
-      ])
-      p.2)
+      (
+        two.ahead ∙ is_at,
+        ap g₂ (sym is_at) ∙ two.back,
+        path_frame f g f₂ g₂ y z ys
+            (λ k h. two.other_ahead k (λ e. omega (arith, e, rising_low (suc x) high k (y ∷ ys) rise.2 h))
+            ∙ one.other_ahead k (λ e. fresh k (inr h) (e ∙ before)))
+            (λ k h. elim h [
+              | inl ez ↦ two.other_back k (λ e. omega (arith, e, ez, is_at, hz, rise.2.1)) ∙ one.other_back k (λ e. omega (arith, e, ez, hz, rise.1))
+              | inr i ↦ let above = rising_low (suc y) high k ys rise.2.2 i in
+                  two.other_back k (λ e. omega (arith, e, is_at, above)) ∙ one.other_back k (λ e. omega (arith, e, above, rise.2.0))
+            ])
+            p.2,
+      ),
     )
 path_put f g f₁ g₁ f₂ g₂ low high a x z at (b ∷ l) r is_at one two rise hz fresh p =
     let x_above : suc b ≤ x = rising_low (suc b) high x (l ++ x ∷ r) rise.2 (IsIn-append_right x l (x ∷ r) (inl refl)) in
     let not_at : b ≢ at = λ e. elim (head_or_cases z r) [
-        inl ez ↦ omega (arith, e, is_at, ez, hz, rise.1)
-        | inr i ↦ omega (arith, e, is_at, rising_low (suc x) high (head_or z r) r (rising_after (suc b) high x l r rise.2) i, x_above)
-      ] in
-    let ends : f (g at) ≡ at = subst (λ n. f (g n) ≡ n) (sym is_at) (path_end f g b (head_or z r) l (path_front f g b z l r p.2)) in
-    (
+      | inl ez ↦ omega (arith, e, is_at, ez, hz, rise.1)
+      | inr i ↦ omega (arith, e, is_at, rising_low (suc x) high (head_or z r) r (rising_after (suc b) high x l r rise.2) i, x_above)
+    ] in
+    let ends : f (g at) ≡ at = subst (λ n. f (g n) ≡ n) (sym is_at) (path_end f g b (head_or z r) l (path_front f g b z l r p.2)) in (
       two.other_ahead a (λ e. fresh x (IsIn-append_right x (b ∷ l) (x ∷ r) (inl refl)) (sym e))
-      ∙ one.other_ahead a (λ e. not_at (sym p.0 ∙ ap f e ∙ ends)) ∙ p.0,
+          ∙ one.other_ahead a (λ e. not_at (sym p.0 ∙ ap f e ∙ ends)) ∙ p.0,
       two.other_back b not_at ∙ one.other_back b (λ e. omega (arith, e, x_above)) ∙ p.1,
-      path_put f g f₁ g₁ f₂ g₂ (suc b) high b x z at l r is_at one two rise.2 hz (λ k h e. omega (arith, e, rising_low (suc b) high k (l ++ x ∷ r) rise.2 h)) p.2
+      path_put f g f₁ g₁ f₂ g₂ (suc b) high b x z at l r is_at one two rise.2 hz (λ k h e. omega (arith, e, rising_low (suc b) high k (l ++ x ∷ r) rise.2 h)) p.2,
     )

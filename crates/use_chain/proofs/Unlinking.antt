@@ -1,5 +1,5 @@
 -- The lists without a node.
-use Rattle.std.proofs.Common.{◌≡◌, ◌≢◌, ℕ, suc, ◌+◌, ◌<◌, ◌≤◌, ◌==◌, not, cond, List, [], ◌∷◌, ◌++◌, length, get_or, set, map, filter, ◌⊎◌, inl, inr, refl, sym, ap, subst, ◌∙◌, arith, length-set}
+use Rattle.std.proofs.Common.{◌≡◌, ℕ, suc, ◌<◌, ◌==◌, not, cond, List, [], ◌∷◌, ◌++◌, length, get_or, set, map, inl, inr, refl, sym, ap, subst, ◌∙◌, arith, length-set}
 use Rattle.std.specs.Prelude.{Contains}
 use Rattle.std.proofs.lemmas.Bool.{cases_eq}
 use Rattle.std.proofs.lemmas.Bool.Decides.{eqb_tells}
@@ -17,7 +17,7 @@ without_none : (x : ℕ) (xs : List ℕ) → (IsIn x xs → ⊥) → without x x
 without_none x [] h = refl
 without_none x (k ∷ ks) h =
     elim (eqb_tells k x) [
-      inl t ↦ absurd (h (inl (sym t.1)))
+      | inl t ↦ absurd (h (inl (sym t.1)))
       | inr t ↦ ap (λ b. cond (not b) (k ∷ without x ks) (without x ks)) t.0 ∙ ap (λ t'. k ∷ t') (without_none x ks (λ i. h (inr i)))
     ]
 
@@ -25,7 +25,7 @@ without_none x (k ∷ ks) h =
 without_first : (x : ℕ) (xs : List ℕ) → (IsIn x xs → ⊥) → without x (x ∷ xs) ≡ xs
 without_first x xs h =
     elim (eqb_tells x x) [
-      inl t ↦ ap (λ b. cond (not b) (x ∷ without x xs) (without x xs)) t.0 ∙ without_none x xs h
+      | inl t ↦ ap (λ b. cond (not b) (x ∷ without x xs) (without x xs)) t.0 ∙ without_none x xs h
       | inr t ↦ absurd (t.1 refl)
     ]
 
@@ -44,13 +44,13 @@ without_is_set places ns uses v x l r h hv was =
     let in_v : IsIn x (list_of uses v) = subst (IsIn x) (sym was) (IsIn-append_right x l (x ∷ r) (inl refl)) in
     ext_get_or [] (set uses v (l ++ r)) (map (without x) uses) (length-set uses v (l ++ r) ∙ sym (length-map uses (without x)))
     (λ i hi.
-      let within : i < length uses = omega (arith, length-set uses v (l ++ r)) in
-      let mapped = get_or-map (without x) uses i [] [] within in
-      elim (cases_eq i v) [
-        inl e ↦ subst (λ j. get_or (set uses v (l ++ r)) j [] ≡ get_or (map (without x) uses) j []) (sym e)
+    let within : i < length uses = omega (arith, length-set uses v (l ++ r)) in
+    let mapped = get_or-map (without x) uses i [] [] within in
+    elim (cases_eq i v) [
+      | inl e ↦ subst (λ j. get_or (set uses v (l ++ r)) j [] ≡ get_or (map (without x) uses) j []) (sym e)
           (get_or-set_same uses v (l ++ r) [] hv ∙ sym (get_or-map (without x) uses v [] [] hv ∙ ap (without x) was ∙ without_middle x places l r rise))
-        | inr ne ↦ get_or-set_other uses v i (l ++ r) [] ne ∙ sym (mapped ∙ without_none x (list_of uses i) (λ j. ne (h.rings.apart i v x j in_v)))
-      ])
+      | inr ne ↦ get_or-set_other uses v i (l ++ r) [] ne ∙ sym (mapped ∙ without_none x (list_of uses i) (λ j. ne (h.rings.apart i v x j in_v)))
+    ])
 
 pub holds_without : (places : ℕ) (ns : List Node) (uses : List (List ℕ)) (x : ℕ) → Holds places ns uses → (v : ℕ) × Contains (list_of uses v) x → Holds places (taken_out ns x) (map (without x) uses)
 holds_without places ns uses x h (v, c) =

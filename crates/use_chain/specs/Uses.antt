@@ -1,6 +1,6 @@
 -- The uses of each value, as the list of its nodes. Node 2 * step is the first operand of a step, and
 -- node 2 * step + 1 its second one.
-use Rattle.std.specs.Prelude.{◌≡◌, ℕ, ◌+◌, ◌-◌, ◌*◌, ◌/◌, ◌%◌, ◌<◌, ◌==◌, nat_lt, not, Bool, false, if◌then◌else◌, List, [], ◌∷◌, ◌++◌, length, map, fold, filter, slice_set, slice_get, slice_index_or, Contains, Option, None, Some, IfSome, ◌↔◌, ◌⊎◌}
+use Rattle.std.specs.Prelude.{◌≡◌, ℕ, ◌-◌, ◌*◌, ◌/◌, ◌%◌, ◌<◌, ◌==◌, nat_lt, not, Bool, false, if◌then◌else◌, List, [], ◌∷◌, ◌++◌, length, map, fold, filter, slice_set, slice_get, slice_index_or, Contains, Option, None, Some, IfSome, ◌↔◌, ◌⊎◌}
 use Rattle.std.specs.List.{range_with_len}
 use Rattle.std.specs.List.Sorted.{IsStrictlyIncreasing}
 use Rattle.std.specs.Option.{option_map_or}
@@ -28,11 +28,15 @@ operand_at steps node =
 abbrev pub uses_value : List Operands → ℕ → ℕ → Bool
 uses_value steps value node = option_map_or (λ v. v == value) (operand_at steps node) false
 
--- for each value, the nodes that use it, in order
-unfoldable pub uses_of : List Operands → List (List ℕ)
-uses_of steps =
-    map (λ value. filter (uses_value steps value) (range_with_len 0 (2 * length steps)))
+-- for each value, the nodes below `count` that use it, in order
+unfoldable pub uses_below : List Operands → ℕ → List (List ℕ)
+uses_below steps count =
+    map (λ value. filter (uses_value steps value) (range_with_len 0 count))
     (range_with_len 0 (length steps))
+
+-- for each value, the nodes that use it, in order
+abbrev pub uses_of : List Operands → List (List ℕ)
+uses_of steps = uses_below steps (2 * length steps)
 
 -- operands of a step name earlier steps
 abbrev pub NamesEarlier : ℕ → Operands → Type 0

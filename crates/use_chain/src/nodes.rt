@@ -12,9 +12,7 @@ use std::alloc::{AllocError, Global};
 pub fn alone(alloc: Global, count: u32) -> Result<Vec<Node>, AllocError>
     ensures { IfOk result (λ nodes. nodes.items ≡ map alone (range_with_len 0 count)) }
 {
-    (0..count)
-        .map(|k| Node { next: k, prev: k })
-        .collect(alloc)
+    (0..count).map(|k| Node { next: k, prev: k }).collect(alloc)
 }
 
 // The node, if it is none of the ring heads.

@@ -1,0 +1,13 @@
+use Rattle.std.proofs.Common.{◌*◌, length, arith, ap, sym, subst, ◌∙◌}
+use Rattle.std.proofs.lemmas.List.{with_items_is}
+use Rattle.std.proofs.lemmas.List.FromFn.{length-map-range_with_len}
+use Rattle.use_chain.specs.Rings.{alone, IsWhole}
+use Rattle.use_chain.proofs.UseChain.new.Goals as goal
+
+pub invariant_of-result : goal.invariant_of-result
+invariant_of-result c =
+    let count = length c.args.steps.now in
+    let kept = with_items_is c.in_ok-nodes.nodes c.add_uses.new.nodes (c.add_uses.auto.nodes ∙ c.deref_mut.ensures.len) in (
+      subst (IsWhole (2 * count)) (sym kept) c.add_uses.ensures.whole,
+      omega (arith, ap length kept, c.add_uses.auto.nodes, ap length c.deref_mut.ensures.value, ap length c.in_ok-nodes.ensures, length-map-range_with_len alone 0 (3 * count)),
+    )
