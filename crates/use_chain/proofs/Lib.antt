@@ -5,3 +5,4 @@ pub mod Answering
 pub mod Merging
 pub mod RingLemmas
 pub mod Unlinking
+pub mod UseLaws

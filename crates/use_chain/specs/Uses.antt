@@ -1,6 +1,6 @@
 -- The uses of each value, as the list of its nodes. Node 2 * step is the first operand of a step, and
 -- node 2 * step + 1 its second one.
-use Rattle.std.specs.Prelude.{◌≡◌, ℕ, ◌-◌, ◌*◌, ◌/◌, ◌%◌, ◌<◌, ◌==◌, nat_lt, not, Bool, false, if◌then◌else◌, List, [], ◌∷◌, ◌++◌, length, map, fold, filter, slice_set, slice_get, slice_index_or, Contains, Option, None, Some, IfSome, ◌↔◌, ◌⊎◌}
+use Rattle.std.specs.Prelude.{◌≡◌, ℕ, ◌-◌, ◌*◌, ◌/◌, ◌%◌, ◌<◌, ◌==◌, nat_lt, not, Bool, false, if◌then◌else◌, List, [], ◌∷◌, ◌++◌, length, map, fold, filter, reverse, slice_set, slice_get, slice_index_or, Contains, Option, None, Some, IfSome, ◌↔◌, ◌⊎◌}
 use Rattle.std.specs.List.{range_with_len}
 use Rattle.std.specs.List.Sorted.{IsStrictlyIncreasing}
 use Rattle.std.specs.Option.{option_map_or}
@@ -80,17 +80,37 @@ abbrev pub replaced : List (List ℕ) → ℕ → ℕ → List (List ℕ)
 replaced uses from into =
     slice_set (slice_set uses from []) into (merged (list_of uses from) (list_of uses into))
 
--- two ascending lists with no common node merge to the ascending list of the nodes of both
+-- each list ascends, and no two have a common node
+pub record AreApart (uses : List (List ℕ)) : Type 0 where
+  pub ascending : (value : ℕ) → IsStrictlyIncreasing (list_of uses value)
+  pub apart : (u v node : ℕ) → Contains (list_of uses u) node → Contains (list_of uses v) node → u ≡ v
+
+-- the ascending list of the nodes of both
 pub record IsMerge (from into both : List ℕ) : Type 0 where
   pub ascending : IsStrictlyIncreasing both
   pub members : (k : ℕ) → Contains both k ↔ (Contains from k ⊎ Contains into k)
 
+-- two ascending lists with no common node merge to that list
 abbrev pub MergesAscending : Type 0
 MergesAscending =
     (from into : List ℕ) → IsStrictlyIncreasing from → IsStrictlyIncreasing into
     → ((k : ℕ) → Contains from k → Contains into k → ⊥) → IsMerge from into (merged from into)
 
--- a walk goes through these nodes and ends
+-- from a node on, the steps of a walk go through these nodes and end
 abbrev pub Walks : (ℕ → Option ℕ) → Option ℕ → List ℕ → Type 0
 Walks step at [] = at ≡ None
 Walks step at (k ∷ ks) = (at ≡ Some k) × Walks step (step k) ks
+
+-- from the first node on, the next ones are the list
+abbrev pub WalksForward : Type 0
+WalksForward =
+    (uses : List (List ℕ)) (value : ℕ) (next : ℕ → Option ℕ)
+    → ((node : ℕ) → IsListed uses node → IsNext uses node (next node))
+    → Walks next (slice_get (list_of uses value) 0) (list_of uses value)
+
+-- from the last node back, the previous ones are the list from its end
+abbrev pub WalksBackward : Type 0
+WalksBackward =
+    (uses : List (List ℕ)) (value : ℕ) (prev : ℕ → Option ℕ)
+    → ((node : ℕ) → IsListed uses node → IsPrev uses node (prev node))
+    → Walks prev (slice_get (list_of uses value) (length (list_of uses value) - 1)) (reverse (list_of uses value))

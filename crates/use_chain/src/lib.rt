@@ -8,7 +8,7 @@
 
 ghost use Rattle.std.specs.Prelude.{◌≡◌, ◌≢◌, ℕ, ◌+◌, ◌-◌, ◌*◌, ◌/◌, ◌^◌, ◌<◌, ◌≤◌, List, length, slice_get, map, IfOk};
 ghost use Rattle.std.specs.List.{range_with_len};
-ghost use Rattle.use_chain.specs.Uses.{list_of, uses_of, NameEarlier, IsListed, IsNext, IsPrev, without, replaced};
+ghost use Rattle.use_chain.specs.Uses.{list_of, uses_of, NameEarlier, IsListed, IsNext, IsPrev, without, replaced, AreApart, WalksForward, WalksBackward, MergesAscending};
 
 mod nodes;
 
@@ -57,7 +57,8 @@ impl UseChain {
     pub fn new(alloc: Global, steps: &[Operands]) -> Result<UseChain, AllocError>
         requires few { length steps.now ≤ 100000 }
         requires earlier { NameEarlier steps.now }
-        ensures { IfOk result (λ chain. chain ≡ uses_of steps.now) }
+        ensures uses { IfOk result (λ chain. chain ≡ uses_of steps.now) }
+        ensures apart { IfOk result AreApart }
     {
         let count = steps.len() as u32;
         let places = 2 * count;
@@ -110,7 +111,8 @@ impl UseChain {
     /// Takes a node out of its list. All other lists stay.
     pub fn unlink(&mut self, node: u32)
         requires { IsListed self.old node }
-        ensures { self.new ≡ map (without node) self.old }
+        ensures without { self.new ≡ map (without node) self.old }
+        ensures apart { AreApart self.new }
     {
         nodes::take_out(&mut self.nodes, node);
     }
@@ -121,8 +123,22 @@ impl UseChain {
         requires from { from < length self.old }
         requires to { to < length self.old }
         requires differ { from ≢ to }
-        ensures { self.new ≡ replaced self.old from to }
+        ensures replaced { self.new ≡ replaced self.old from to }
+        ensures apart { AreApart self.new }
     {
         nodes::merge(&mut self.nodes, self.places, from, to);
     }
 }
+
+/// The walk from `first` by `next` is the list of a value's uses, and the walk from `last` by `prev` is
+/// that list from its end. The contract is the law; the body does nothing.
+pub fn law_walk()
+    ensures forward { WalksForward }
+    ensures backward { WalksBackward }
+{}
+
+/// The list that `replace_all` makes of two is the ascending list of the nodes of both. The contract is
+/// the law; the body does nothing.
+pub fn law_merge()
+    ensures { MergesAscending }
+{}
