@@ -58,6 +58,7 @@ impl UseChain {
         requires few { length steps.now ≤ 100000 }
         requires earlier { NameEarlier steps.now }
         ensures uses { IfOk result (λ chain. chain ≡ uses_of steps.now) }
+        ensures len { IfOk result (λ chain. length chain ≡ length steps.now) }
         ensures apart { IfOk result AreApart }
     {
         let count = steps.len() as u32;

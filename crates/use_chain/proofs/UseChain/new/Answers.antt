@@ -3,6 +3,7 @@ use Rattle.std.proofs.lemmas.List.{with_items_is}
 use Rattle.std.proofs.lemmas.List.FromFn.{length-map-range_with_len}
 use Rattle.use_chain.specs.Uses.{AreApart}
 use Rattle.use_chain.specs.Rings.{alone, lists, IsWhole}
+use Rattle.use_chain.proofs.Building.{length-uses_below}
 use Rattle.use_chain.proofs.UseLaws.{apart_from_whole}
 use Rattle.use_chain.proofs.UseChain.new.Goals as goal
 
@@ -19,3 +20,9 @@ returns-clause-apart c =
     let count = length c.args.steps.now in
     let kept = with_items_is c.in_ok-nodes.nodes c.add_uses.new.nodes (c.add_uses.auto.nodes ∙ c.deref_mut.ensures.len) in
     subst (λ nodes. AreApart (lists (2 * count) nodes)) (sym kept) (apart_from_whole (2 * count) c.add_uses.new.nodes c.add_uses.ensures.whole)
+
+pub returns-clause-len : goal.returns-clause-len
+returns-clause-len c =
+    let count = length c.args.steps.now in
+    let kept = with_items_is c.in_ok-nodes.nodes c.add_uses.new.nodes (c.add_uses.auto.nodes ∙ c.deref_mut.ensures.len) in
+    ap (λ nodes. length (lists (2 * count) nodes)) kept ∙ ap length c.add_uses.ensures.lists ∙ length-uses_below c.args.steps.now (2 * count)
