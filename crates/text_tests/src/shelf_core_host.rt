@@ -1,5 +1,5 @@
 //! The folder that the test runs in, and the standard output.
-use crate::names::file_name;
+use crate::shelf_core_rows::file_name;
 use line_text::FileKind;
 use shelf_core::{FolderShelf, Held, Loaded, OutSink, Put, Saved, Shelf, Sink};
 use std::fs::{self, File};

@@ -1,11 +1,24 @@
-//! The four types in memory: their calls in order, with none failing and with each one failing.
-use crate::names::{file_name, one_file};
-use line_text::FileKind;
+//! The shelves and sinks in memory: their calls in order, with none failing and with each one failing.
+use line_text::{FileKind, FileName, Name};
 use shelf_core::{
     Held, Loaded, MemShelf, MemSink, Put, Saved, Shelf, Sink, SureShelf, SureSink, are_distinct,
 };
 use std::alloc::Global;
 use std::test::Fail;
+
+/// The file name of this word and kind.
+pub(crate) fn file_name(alloc: Global, word: &[u8], kind: FileKind) -> Result<FileName, Fail> {
+    let name = Name::read(alloc, word)?.ok_or("no name")?;
+    Ok(FileName { name, kind })
+}
+
+/// A list of the one file a.prog with the byte `x`.
+fn one_file(alloc: Global) -> Result<Vec<(FileName, Vec<u8>)>, Fail> {
+    let mut files = Vec::new(alloc);
+    let name = file_name(alloc, b"a", FileKind::Prog)?;
+    files.push((name, Vec::from_slice(alloc, b"x")?))?;
+    Ok(files)
+}
 
 fn held_word(answer: Held) -> &'static str {
     match answer {
@@ -108,19 +121,27 @@ fn memory_shelf_fails_the_calls_of_its_list(rt: HostRuntime) -> Result<(), Fail>
         (&[4], "yes x no done failed yes absent ", 2),
         (&[5], "yes x no done 12 failed absent ", 2),
         (&[6], "yes x no done 12 yes failed ", 2),
-        (&[7, 8, 18446744073709551615], "yes x no done 12 yes absent ", 2),
+        (
+            &[7, 8, 18446744073709551615],
+            "yes x no done 12 yes absent ",
+            2,
+        ),
         (&[6, 0, 3, 3], "failed x no failed absent no failed ", 1),
-        (&[0, 1, 2, 3, 4, 5, 6], "failed failed failed failed failed failed ", 1),
+        (
+            &[0, 1, 2, 3, 4, 5, 6],
+            "failed failed failed failed failed failed ",
+            1,
+        ),
     ];
     for (failing, want, held) in rows {
-        let files = one_file(alloc, b"a", FileKind::Prog, b"x")?;
+        let files = one_file(alloc)?;
         assert!(rt; are_distinct(files.as_slice()));
         let mut shelf = MemShelf::new(files, Vec::from_slice(alloc, failing)?);
         let got = answers(alloc, &mut shelf)?;
         assert_eq!(rt; got.as_str(), want, "with {failing:?} failing");
         let files = shelf.files();
         assert_eq!(rt; files.len(), held, "with {failing:?} failing");
-        let (name, bytes) = &files[0];
+        let (name, bytes) = files.first().ok_or("no file")?;
         assert!(rt; name.is(&file_name(alloc, b"a", FileKind::Prog)?));
         assert_eq!(rt; bytes.as_slice(), b"x".as_slice());
         if let [_, (name, bytes)] = files {
@@ -134,7 +155,7 @@ fn memory_shelf_fails_the_calls_of_its_list(rt: HostRuntime) -> Result<(), Fail>
 #[test]
 fn sure_shelf_answers_as_a_shelf_without_failing_calls(rt: HostRuntime) -> Result<(), Fail> {
     let alloc = rt.alloc();
-    let files = one_file(alloc, b"a", FileKind::Prog, b"x")?;
+    let files = one_file(alloc)?;
     assert!(rt; are_distinct(files.as_slice()));
     let mut shelf = SureShelf::new(files);
     let got = answers(alloc, &mut shelf)?;
