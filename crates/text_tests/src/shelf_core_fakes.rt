@@ -1,34 +1,30 @@
 //! The folder and the standard output over a system that gives trouble in mid-stream.
-use crate::shelf_core_rows::file_name;
+ghost use Rattle.std.specs.Prelude.{◌≡◌, IfOk};
+
+use crate::shelf_core_rows::{file_name, held_word, put_loaded, put_word, saved_word};
 use line_text::FileKind;
-use shelf_core::{FolderShelf, Held, Loaded, OutSink, Put, Saved, Shelf, Sink};
-use std::alloc::Allocator;
+use shelf_core::{FolderShelf, OutSink, Shelf, Sink};
+use std::alloc::{Allocator, Global};
 use std::fmt::Display;
 use std::fs::{Metadata, OpenFile, OpenOptions};
 use std::io::{self, Error, ErrorKind, Read, Seek, SeekFrom, Write};
 use std::rt::Files;
 use std::test::Fail;
 
-/// A system with one file of four bytes, or a file that can be made, and what goes wrong there.
-#[derive(Clone, Copy)]
-struct Trouble {
-    /// What the length of the file is, or the error in its place.
-    length: Result<u64, ErrorKind>,
-    /// The error that opening it gives.
-    open: Option<ErrorKind>,
-    /// The error that a read or a write gives after two bytes.
-    stream: Option<ErrorKind>,
-    /// Whether a write takes nothing.
-    takes_nothing: bool,
+/// What goes wrong in a system that has one file, `xxxx`, and can make and print others.
+#[derive(Clone, Copy, Debug)]
+enum Trouble {
+    Nothing,
+    FileMissing,
+    NoWayToLook,
+    NoMemoryToLook,
+    LongestFile,
+    TooLongFile,
+    NoWayToOpen,
+    ErrorInStream,
+    NoMemoryInStream,
+    WriteTakesNothing,
 }
-
-/// A system without trouble.
-const FINE: Trouble = Trouble {
-    length: Ok(4),
-    open: None,
-    stream: None,
-    takes_nothing: false,
-};
 
 /// The open file, and how many of its bytes were read or written.
 #[derive(Drop)]
@@ -37,33 +33,39 @@ struct TroubledFile {
     done: usize,
 }
 
+impl TroubledFile {
+    /// One byte more, but for the trouble after two of them.
+    fn step(&mut self) -> io::Result<usize>
+        ensures { IfOk result (λ taken. taken ≡ 1) }
+    {
+        match self.trouble {
+            Trouble::ErrorInStream if self.done == 2 => Err(Error::from(ErrorKind::StorageFull)),
+            Trouble::NoMemoryInStream if self.done == 2 => Err(Error::from(ErrorKind::OutOfMemory)),
+            _ => {
+                self.done = self.done.saturating_add(1);
+                Ok(1)
+            }
+        }
+    }
+}
+
 impl Read for TroubledFile {
     fn read(&mut self, buf: &mut [u8]) -> io::Result<usize> {
-        if self.done >= 4 {
+        if self.done >= 4 || buf.is_empty() {
             return Ok(0);
         }
-        if let (2, Some(kind)) = (self.done, self.trouble.stream) {
-            return Err(Error::from(kind));
-        }
-        let Some(first) = buf.first_mut() else {
-            return Ok(0);
-        };
-        *first = b'x';
-        self.done += 1;
-        Ok(1)
+        let read = self.step()?;
+        buf[0] = b'x';
+        Ok(read)
     }
 }
 
 impl Write for TroubledFile {
     fn write(&mut self, buf: &[u8]) -> io::Result<usize> {
-        if self.trouble.takes_nothing || buf.is_empty() {
+        if matches!(self.trouble, Trouble::WriteTakesNothing) || buf.is_empty() {
             return Ok(0);
         }
-        if let (2, Some(kind)) = (self.done, self.trouble.stream) {
-            return Err(Error::from(kind));
-        }
-        self.done = self.done.saturating_add(1);
-        Ok(1)
+        self.step()
     }
 
     fn flush(&mut self) -> io::Result<()> {
@@ -79,7 +81,7 @@ impl Seek for TroubledFile {
 
 impl OpenFile for TroubledFile {
     fn metadata(&self) -> io::Result<Metadata> {
-        Ok(Metadata::of_file(4))
+        Err(Error::from(ErrorKind::Unsupported))
     }
 
     fn set_len(&self, _size: u64) -> io::Result<()> {
@@ -101,12 +103,9 @@ impl Files for Trouble {
     type Dir = TroubledFile;
 
     fn open_file(&self, _how: &OpenOptions, _path: &str) -> io::Result<TroubledFile> {
-        match self.open {
-            Some(kind) => Err(Error::from(kind)),
-            None => Ok(TroubledFile {
-                trouble: *self,
-                done: 0,
-            }),
+        match *self {
+            Trouble::NoWayToOpen => Err(Error::from(ErrorKind::PermissionDenied)),
+            trouble => Ok(TroubledFile { trouble, done: 0 }),
         }
     }
 
@@ -115,9 +114,13 @@ impl Files for Trouble {
     }
 
     fn metadata(&self, _path: &str) -> io::Result<Metadata> {
-        match self.length {
-            Ok(length) => Ok(Metadata::of_file(length)),
-            Err(kind) => Err(Error::from(kind)),
+        match self {
+            Trouble::FileMissing => Err(Error::from(ErrorKind::NotFound)),
+            Trouble::NoWayToLook => Err(Error::from(ErrorKind::PermissionDenied)),
+            Trouble::NoMemoryToLook => Err(Error::from(ErrorKind::OutOfMemory)),
+            Trouble::LongestFile => Ok(Metadata::of_file(1 << 30)),
+            Trouble::TooLongFile => Ok(Metadata::of_file((1 << 30) + 1)),
+            _ => Ok(Metadata::of_file(4)),
         }
     }
 
@@ -160,142 +163,44 @@ impl Print for Trouble {
     }
 
     fn write_all(&self, bytes: &[u8]) -> io::Result<()> {
-        TroubledFile {
+        let mut file = TroubledFile {
             trouble: *self,
             done: 0,
-        }
-        .write_all(bytes)
+        };
+        file.write_all(bytes)
     }
 }
 
-/// A row: the trouble, and what `has`, `load`, `save` and `put` answer.
-type Row = (&'static str, Trouble, Held, Loaded, Saved, Put);
+/// What `has`, `load`, `save` and `put` answer.
+fn answers(alloc: Global, trouble: &Trouble) -> Result<String, Fail> {
+    let name = file_name(alloc, b"k", FileKind::Cipher)?;
+    let mut shelf = FolderShelf::new(trouble);
+    let mut sink = OutSink::new(trouble);
+    let mut out = String::new(alloc);
+    out.push_str(held_word(shelf.has(alloc, &name)))?;
+    put_loaded(shelf.load(alloc, &name), &mut out)?;
+    out.push_str(saved_word(shelf.save(alloc, &name, b"abcd")))?;
+    out.push_str(put_word(sink.put(alloc, b"abcd")))?;
+    Ok(out)
+}
 
 #[test]
 fn trouble_in_mid_stream(rt: HostRuntime) -> Result<(), Fail> {
-    let alloc = rt.alloc();
-    let whole = Vec::from_slice(alloc, b"xxxx")?;
-    let also_whole = Vec::from_slice(alloc, b"xxxx")?;
-    let written = Vec::from_slice(alloc, b"xxxx")?;
-    let denied = Some(ErrorKind::PermissionDenied);
-    let no_memory = Some(ErrorKind::OutOfMemory);
-    let rows: [Row; 10] = [
-        (
-            "fine",
-            FINE,
-            Held::Yes,
-            Loaded::Found(whole),
-            Saved::Done,
-            Put::Done,
-        ),
-        (
-            "missing",
-            Trouble {
-                length: Err(ErrorKind::NotFound),
-                ..FINE
-            },
-            Held::No,
-            Loaded::Absent,
-            Saved::Done,
-            Put::Done,
-        ),
-        (
-            "no way to look",
-            Trouble {
-                length: Err(ErrorKind::PermissionDenied),
-                ..FINE
-            },
-            Held::Failed,
-            Loaded::Failed,
-            Saved::Done,
-            Put::Done,
-        ),
-        (
-            "no memory to look",
-            Trouble {
-                length: Err(ErrorKind::OutOfMemory),
-                ..FINE
-            },
-            Held::Memory,
-            Loaded::Memory,
-            Saved::Done,
-            Put::Done,
-        ),
-        (
-            "the longest file",
-            Trouble {
-                length: Ok(1 << 30),
-                ..FINE
-            },
-            Held::Yes,
-            Loaded::Found(also_whole),
-            Saved::Done,
-            Put::Done,
-        ),
-        (
-            "too long a file",
-            Trouble {
-                length: Ok((1 << 30) + 1),
-                ..FINE
-            },
-            Held::Yes,
-            Loaded::Failed,
-            Saved::Done,
-            Put::Done,
-        ),
-        (
-            "no way to open",
-            Trouble {
-                open: denied,
-                ..FINE
-            },
-            Held::Yes,
-            Loaded::Failed,
-            Saved::Failed,
-            Put::Done,
-        ),
-        (
-            "an error after two bytes",
-            Trouble {
-                stream: denied,
-                ..FINE
-            },
-            Held::Yes,
-            Loaded::Failed,
-            Saved::Failed,
-            Put::Failed,
-        ),
-        (
-            "no memory after two bytes",
-            Trouble {
-                stream: no_memory,
-                ..FINE
-            },
-            Held::Yes,
-            Loaded::Memory,
-            Saved::Failed,
-            Put::Failed,
-        ),
-        (
-            "a write that takes nothing",
-            Trouble {
-                takes_nothing: true,
-                ..FINE
-            },
-            Held::Yes,
-            Loaded::Found(written),
-            Saved::Failed,
-            Put::Failed,
-        ),
+    let rows: [(Trouble, &str); 10] = [
+        (Trouble::Nothing, "yes xxxx done done "),
+        (Trouble::FileMissing, "no absent done done "),
+        (Trouble::NoWayToLook, "failed failed done done "),
+        (Trouble::NoMemoryToLook, "memory memory done done "),
+        (Trouble::LongestFile, "yes xxxx done done "),
+        (Trouble::TooLongFile, "yes failed done done "),
+        (Trouble::NoWayToOpen, "yes failed failed done "),
+        (Trouble::ErrorInStream, "yes failed failed failed "),
+        (Trouble::NoMemoryInStream, "yes memory failed failed "),
+        (Trouble::WriteTakesNothing, "yes xxxx failed failed "),
     ];
-    let name = file_name(alloc, b"k", FileKind::Cipher)?;
-    for (row, trouble, has, load, save, put) in rows {
-        let mut shelf = FolderShelf::new(&trouble);
-        assert_eq!(rt; shelf.has(alloc, &name), has, "{row}");
-        assert_eq!(rt; shelf.load(alloc, &name), load, "{row}");
-        assert_eq!(rt; shelf.save(alloc, &name, b"abcd"), save, "{row}");
-        let mut sink = OutSink::new(&trouble);
-        assert_eq!(rt; sink.put(alloc, b"abcd"), put, "{row}");
+    for (trouble, want) in rows {
+        let got = answers(rt.alloc(), &trouble)?;
+        assert_eq!(rt; got.as_str(), want, "{trouble:?}");
     }
     Ok(())
 }
