@@ -37,9 +37,9 @@ pub enum Loaded {
 pub enum Saved {
     /// The shelf holds the file.
     Done,
-    /// The shelf failed, and does not hold the file.
+    /// The shelf failed. One that tells holds the files that it held before.
     Failed,
-    /// There was no memory for the call.
+    /// There was no memory for the call. A shelf that tells holds the files that it held before.
     Memory,
 }
 
