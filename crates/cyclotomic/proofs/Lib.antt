@@ -17,3 +17,5 @@ pub mod NormLists
 pub mod Substitution
 pub mod PhiLaws
 pub mod PhiValues
+pub mod HeldRoots
+pub mod WorkedValues

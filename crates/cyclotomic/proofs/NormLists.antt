@@ -1,11 +1,11 @@
 -- The norm of the elements of R: its laws for lists, from those for polynomials.
-use Rattle.std.specs.Prelude.{◌≡◌, ℕ, zero, suc, ◌+◌, ◌-◌, ◌*◌, ◌/◌, ◌%◌, ◌<◌, ◌≤◌, ◌⊎◌, min, max, List, [], ◌∷◌, length, ℤ, pos, negsuc, ◌*ℤ◌, nat_abs, refl}
+use Rattle.std.specs.Prelude.{◌≡◌, ℕ, zero, suc, ◌+◌, ◌*◌, ◌/◌, ◌%◌, ◌<◌, ◌≤◌, ◌⊎◌, min, max, List, [], ◌∷◌, length, ℤ, pos, ◌*ℤ◌, nat_abs, refl, map, neg_ℤ, ◌≤ℤ◌, ◌<ℤ◌}
 use Rattle.std.proofs.Common.{sym, ◌∙◌, ap, ap₂, subst, arith, inl, inr, le_trans, le_of_eq, eq-or-lt_of_le, mul-le-mul_left, mul_comm, div-add-mod', mod-lt}
-use Rattle.std.proofs.lemmas.List.{length-map}
+use Rattle.std.proofs.lemmas.List.{length-map, get_or-map}
 use Rattle.std.specs.Int.{div_ceil}
 use Rattle.std.proofs.lemmas.Bool.{cases_lt}
 use mathlib.Core.Path.{fun_ext}
-use borrow.Author.Differences.{up, down, same_in, sum_is_lem, product_is}
+use borrow.Author.Differences.{le_in, lt_in, neg_is, product_is}
 use Rattle.algebra.specs.Ring.{whole_numbers}
 use Rattle.algebra.specs.Range.{total}
 use Rattle.algebra.specs.Power.{power, number}
@@ -17,13 +17,15 @@ use Rattle.algebra.proofs.Units.{inverse_of_unit}
 use Rattle.algebra.proofs.Polynomials.{poly, same, constant, constant_hom}
 use Rattle.algebra.proofs.Spread as over
 use Rattle.algebra.proofs.Degrees.{Below-const}
-use Rattle.algebra.proofs.Lists.{Below-coeff, length-plus}
+use Rattle.algebra.specs.Whole.{balanced, SameModulo}
+use Rattle.algebra.proofs.Balanced.{balanced_only}
+use Rattle.algebra.proofs.Lists.{Below-coeff, length-plus, same_list}
 use Rattle.cyclotomic.proofs.Listed.{listed, length-listed, listed_at}
 use Rattle.cyclotomic.specs.Cyclotomic.{degree, R, IsElement, fold, substituted, multiple}
-use Rattle.cyclotomic.specs.Norm.{one_norm, NormAtMost, greatest, height, IsBalanced}
-use Rattle.cyclotomic.specs.NormLaws.{SumIsBounded, ProductIsBounded, MultipleIsBounded, SubstitutionIsBounded, QuotientIsBounded, CoefficientIsBounded, RemainderIsBounded, BoundsGrow, BalancedIsOnly}
+use Rattle.cyclotomic.specs.Norm.{one_norm, NormAtMost, greatest, height}
+use Rattle.cyclotomic.specs.NormLaws.{SumIsBounded, ProductIsBounded, MultipleIsBounded, SubstitutionIsBounded, QuotientIsBounded, CoefficientIsBounded, RemainderIsBounded, BoundsGrow, SmallIsBalanced}
 use Rattle.cyclotomic.proofs.WholePolys.{WholePoly, whole_polys, indeterminate, number_is}
-use Rattle.cyclotomic.proofs.Norms.{Whole, norm, norm_first}
+use Rattle.cyclotomic.proofs.Norms.{Whole, norm, norm_first, abs_up}
 use Rattle.cyclotomic.proofs.Modulo.{Alike, Alike_of_path, Alike_sym, Alike_trans}
 use Rattle.cyclotomic.proofs.NormLaws.{NormLe, NormLe_alike, NormLe_own, NormLe-add, NormLe-mul, NormLe-divide}
 use Rattle.cyclotomic.proofs.NormMaps.{NormLe_image}
@@ -173,14 +175,19 @@ coefficient_bounded (suc k) a B i p e h = NormLe-coefficient k (degree (suc k)) 
     is_rest : (t : ℕ) (l : t < suc k) → Alike whole_polys (phi_poly (suc k)) (power whole_polys.ops indeterminate t) (poly whole_numbers (degree (suc k)) (rest t) (short t))
     is_rest t l = subst (λ z. alike k z (poly whole_numbers (degree (suc k)) (rest t) (short t))) (as_poly-monomial t) (subst (alike k (as_poly (monomial whole_numbers t))) (same whole_numbers refl) (fold_alike k (monomial whole_numbers t)))
 
-pub balanced_only : BalancedIsOnly
-balanced_only q a b s t (k, e) = same_in a b (by k (omega (arith, sum_is_lem b (pos q *ℤ k), product_is (pos q) k, ap up e, ap down e)))
+-- a number below half of q is its own balanced residue
+half_balanced : (q : ℕ) (f a : ℤ) → 2 * nat_abs a < q → SameModulo q f a → a ≡ balanced q f
+half_balanced q f a l s = balanced_only q (omega arith) f a (record { same = s; high = high a l; low = low a l })
   where
-    within : (z : ℤ) → IsBalanced q z → (2 * up z ≤ q) × (2 * down z ≤ q - 1)
-    within (pos n) h = omega arith
-    within (negsuc n) h = omega arith
+    high : (a : ℤ) → 2 * nat_abs a < q → (pos 2 *ℤ a) ≤ℤ pos q
+    high a l = record { le = le_in (pos 2 *ℤ a) (pos q) (omega (arith, product_is (pos 2) a, abs_up a)) }
 
-    by : (k : ℤ) → up a + down b + q * down k ≡ up b + down a + q * up k → up a + down b ≡ up b + down a
-    by (pos zero) f = omega arith
-    by (pos (suc n)) f = omega (arith, within a s, within b t)
-    by (negsuc n) f = omega (arith, within a s, within b t)
+    low : (a : ℤ) → 2 * nat_abs a < q → neg_ℤ (pos q) <ℤ (pos 2 *ℤ a)
+    low a l = record { lt = lt_in (neg_ℤ (pos q)) (pos 2 *ℤ a) (omega (arith, product_is (pos 2) a, abs_up a, neg_is (pos q))) }
+
+pub small_balanced : SmallIsBalanced
+small_balanced m q a f B p e s h l same = same_list whole_numbers a (map (balanced q) f) (e ∙ sym s ∙ sym (length-map f (balanced q))) (λ i. at i (cases_lt i (length f)))
+  where
+    at : (i : ℕ) → (i < length f) ⊎ (length f ≤ i) → coeff whole_numbers a i ≡ coeff whole_numbers (map (balanced q) f) i
+    at i (inl k) = half_balanced q (coeff whole_numbers f i) (coeff whole_numbers a i) (omega (arith, coefficient_bounded m a B i p e h)) (same i) ∙ sym (get_or-map (balanced q) f i (pos 0) (pos 0) k)
+    at i (inr k) = Below-coeff whole_numbers a i (omega arith) ∙ sym (Below-coeff whole_numbers (map (balanced q) f) i (omega (arith, length-map f (balanced q))))

@@ -14,7 +14,7 @@ use Rattle.algebra.proofs.Polynomials.{poly, same, constant}
 use Rattle.algebra.proofs.Solver.{◌:+◌, ◌:*◌, :0, solve2}
 use Rattle.cyclotomic.proofs.WholePolys.{whole_polys, indeterminate}
 
-abs_up : (z : ℤ) → nat_abs z ≡ up z + down z
+pub abs_up : (z : ℤ) → nat_abs z ≡ up z + down z
 abs_up (pos n) = omega arith
 abs_up (negsuc n) = omega arith
 

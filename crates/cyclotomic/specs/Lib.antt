@@ -5,3 +5,4 @@ pub mod Cyclotomic
 pub mod Norm
 pub mod NormLaws
 pub mod CyclotomicLaws
+pub mod RootLaws

@@ -1,6 +1,6 @@
 -- The norm of the elements of R: "B bounds a".
-use Rattle.std.specs.Prelude.{◌≡◌, ℕ, ◌*◌, ◌<◌, ◌≤◌, max, List, [], ◌∷◌, length, ℤ, pos, negsuc, nat_abs}
-use Rattle.std.specs.Prelude.{suc, ◌+◌}
+use Rattle.std.specs.Prelude.{◌≡◌, ℕ, ◌*◌, ◌<◌, ◌≤◌, max, List, [], ◌∷◌, length, ℤ, pos, nat_abs}
+use Rattle.std.specs.Prelude.{◌+◌}
 use Rattle.algebra.specs.Ring.{whole_numbers}
 use Rattle.algebra.specs.Range.{Monoid, total}
 use Rattle.algebra.specs.Poly.{coeff, monomial}
@@ -29,8 +29,3 @@ greatest = record { unit = 0; op = max }
 -- the greatest absolute coefficient of X^t modulo Phi_m, over t < m
 unfoldable pub height : ℕ → ℕ
 height m = total greatest m (λ t. total greatest (degree m) (λ i. nat_abs (coeff whole_numbers (fold m (monomial whole_numbers t)) i)))
-
--- -q/2 < z <= q/2
-abbrev pub IsBalanced : ℕ → ℤ → Type 0
-IsBalanced q (pos a) = 2 * a ≤ q
-IsBalanced q (negsuc a) = 2 * suc a < q

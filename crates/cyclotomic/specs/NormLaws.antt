@@ -1,12 +1,12 @@
 -- What is said of the norm of the elements of R, for m above 0.
-use Rattle.std.specs.Prelude.{◌≡◌, ℕ, ◌+◌, ◌*◌, ◌<◌, ◌≤◌, List, ℤ, pos, nat_abs}
+use Rattle.std.specs.Prelude.{◌≡◌, ℕ, ◌+◌, ◌*◌, ◌<◌, ◌≤◌, List, map, ℤ, pos, nat_abs}
 use Rattle.std.specs.Int.{div_ceil}
 use Rattle.algebra.specs.Ring.{whole_numbers}
 use Rattle.algebra.specs.Divisor.{UnitModulo}
 use Rattle.algebra.specs.Poly.{coeff}
-use Rattle.algebra.specs.Whole.{SameModulo}
+use Rattle.algebra.specs.Whole.{SameModulo, balanced}
 use Rattle.cyclotomic.specs.Cyclotomic.{R, IsElement, fold, substituted, multiple}
-use Rattle.cyclotomic.specs.Norm.{one_norm, NormAtMost, height, IsBalanced}
+use Rattle.cyclotomic.specs.Norm.{one_norm, NormAtMost, height}
 
 -- the sum of a bound of a and a bound of b bounds a + b
 abbrev pub SumIsBounded : Type 0
@@ -40,6 +40,7 @@ RemainderIsBounded = (m : ℕ) (f : List ℤ) → 0 < m → NormAtMost m (fold m
 abbrev pub BoundsGrow : Type 0
 BoundsGrow = (m : ℕ) (a : List ℤ) (B C : ℕ) → B ≤ C → NormAtMost m a B → NormAtMost m a C
 
--- of the whole numbers that are equal up to a multiple of q one is balanced
-abbrev pub BalancedIsOnly : Type 0
-BalancedIsOnly = (q : ℕ) (a b : ℤ) → IsBalanced q a → IsBalanced q b → SameModulo q a b → a ≡ b
+-- an element whose bound times the height is below half of q is the balanced residue of each polynomial that is equal to it
+-- up to a multiple of q, and so the only such element
+abbrev pub SmallIsBalanced : Type 0
+SmallIsBalanced = (m q : ℕ) (a f : List ℤ) (B : ℕ) → 0 < m → IsElement m a → IsElement m f → NormAtMost m a B → 2 * (height m * B) < q → ((i : ℕ) → SameModulo q (coeff whole_numbers f i) (coeff whole_numbers a i)) → a ≡ map (balanced q) f

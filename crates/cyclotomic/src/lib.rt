@@ -6,3 +6,4 @@
 pub mod norm;
 pub mod polynomials;
 pub mod ring;
+pub mod unity;

@@ -1,6 +1,6 @@
 //! The norm of the elements of R: "B bounds a" says that some N above 0 times a is the remainder of m whole numbers whose absolute values sum to at most N B.
 
-ghost use Rattle.cyclotomic.specs.NormLaws.{SumIsBounded, ProductIsBounded, MultipleIsBounded, SubstitutionIsBounded, QuotientIsBounded, CoefficientIsBounded, RemainderIsBounded, BoundsGrow, BalancedIsOnly};
+ghost use Rattle.cyclotomic.specs.NormLaws.{SumIsBounded, ProductIsBounded, MultipleIsBounded, SubstitutionIsBounded, QuotientIsBounded, CoefficientIsBounded, RemainderIsBounded, BoundsGrow, SmallIsBalanced};
 
 /// The sum of a bound of a and a bound of b bounds a + b.
 pub fn law_norm_of_sum()
@@ -42,7 +42,8 @@ pub fn law_norm_grows()
     ensures { BoundsGrow }
 {}
 
-/// Of the whole numbers that are equal up to a multiple of q one lies above -q/2 and at most at q/2.
-pub fn law_balanced_is_only()
-    ensures { BalancedIsOnly }
+/// An element whose bound times the height is below half of q is the balanced residue of each element that is equal to it
+/// up to a multiple of q.
+pub fn law_small_is_balanced()
+    ensures { SmallIsBalanced }
 {}
