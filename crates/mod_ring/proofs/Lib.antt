@@ -1,0 +1,4 @@
+pub mod Shoup
+pub mod Wrapped
+pub mod Barrett
+pub mod Powers
