@@ -1,9 +1,4 @@
-//! Definitions and laws of algebra: rings, sums and products over ranges.
+//! Definitions and laws of algebra: rings, sums and products over ranges, powers and divisors.
 #![tactic(auto)]
 
-ghost use Rattle.algebra.specs.Range.{MonoidLaws, counts};
-
-/// Sums of natural numbers are sums over a commutative operation with a unit.
-pub fn law_counts()
-    ensures { MonoidLaws counts }
-{}
+pub mod rings;
