@@ -2,3 +2,4 @@ pub mod Shoup
 pub mod Wrapped
 pub mod Barrett
 pub mod Powers
+pub mod Squares

@@ -1,2 +1,4 @@
+pub mod Laws
+pub mod Values
 pub mod Whole
 pub mod Zq
