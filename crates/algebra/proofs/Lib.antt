@@ -5,3 +5,9 @@ pub mod Residues
 pub mod Held
 pub mod Ranges
 pub mod Powers
+pub mod SeriesRing
+pub mod Degrees
+pub mod Homs
+pub mod Polynomials
+pub mod Evaluate
+pub mod Spread

@@ -1,3 +1,5 @@
 pub mod Ring
+pub mod Hom
 pub mod Range
 pub mod Power
+pub mod Series
