@@ -1,3 +1,6 @@
+pub mod Euclid
+pub mod Divisors
+pub mod Units
 pub mod Basic
 pub mod Solver
 pub mod Integers

@@ -1,5 +1,6 @@
 pub mod Ring
 pub mod Hom
 pub mod Range
+pub mod Divisor
 pub mod Power
 pub mod Series

@@ -1,0 +1,12 @@
+pub mod Gauss
+pub mod Family
+pub mod Roots
+pub mod Images
+pub mod FewValues
+pub mod WholePolys
+pub mod Norms
+pub mod Modulo
+pub mod NormLaws
+pub mod NormMaps
+pub mod Coefficients
+pub mod DualBasis

@@ -1,0 +1,4 @@
+pub mod Family
+pub mod Roots
+pub mod Trace
+pub mod Laws
