@@ -38,6 +38,10 @@ module _ (R S : CommRing) (F : Hom R S) (x : S.Carrier) where
   horner_more (suc n) zero f b l = absurd (omega arith)
   horner_more (suc n) (suc m) f b l = ap (λ z. F.map (f zero) + x * z) (horner_more n m (tail f) (Below-tail R n f b) (omega arith))
 
+  -- any two bounds give the same value
+  pub horner_same : (f : Series C) (n m : ℕ) → Below o n f → Below o m f → horner n f ≡ horner m f
+  horner_same f n m b c = sym (horner_more n (n +ₙ m) f b (omega arith)) ∙ horner_more m (n +ₙ m) f c (omega arith)
+
   pub horner-sum : (n : ℕ) (f g : Series C) → horner n (sum o f g) ≡ horner n f + horner n g
   horner-sum zero f g = sym (S.zero_add 𝟘)
   horner-sum (suc n) f g = ap₂ (λ y z. y + x * z) (F.map_add (f zero) (g zero)) (horner-sum n (tail f) (tail g)) ∙ solve S (env 𝟘 (F.map (f zero) ∷ F.map (g zero) ∷ x ∷ horner n (tail f) ∷ horner n (tail g) ∷ [])) (var 0 :+ var 1 :+ var 2 :* (var 3 :+ var 4)) (var 0 :+ var 2 :* var 3 :+ (var 1 :+ var 2 :* var 4)) refl
@@ -66,11 +70,8 @@ module _ (R S : CommRing) (F : Hom R S) (x : S.Carrier) where
     Value-prop : (p : Poly o) → IsProp (Value p)
     Value-prop p v w = Σ_prop_path (λ u. Π_prop λ n. Π_prop λ b. is_set u (horner n p.0)) (∥∥₁_elim p.1 (is_set v.0 w.0) (λ (n, b). v.1 n b ∙ sym (w.1 n b)))
 
-    same_bound : (f : Series C) (n m : ℕ) → Below o n f → Below o m f → horner n f ≡ horner m f
-    same_bound f n m b c = sym (horner_more n (n +ₙ m) f b (omega arith)) ∙ horner_more m (n +ₙ m) f c (omega arith)
-
     value : (p : Poly o) → Value p
-    value p = ∥∥₁_elim p.1 (Value-prop p) (λ (n, b). (horner n p.0, λ m c. same_bound p.0 n m b c))
+    value p = ∥∥₁_elim p.1 (Value-prop p) (λ (n, b). (horner n p.0, λ m c. horner_same p.0 n m b c))
 
     -- the value of a polynomial
     pub value_at : Poly o → S.Carrier

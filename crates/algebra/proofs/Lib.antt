@@ -14,3 +14,12 @@ pub mod Homs
 pub mod Polynomials
 pub mod Evaluate
 pub mod Spread
+pub mod Lists
+pub mod Dividing
+pub mod Quotients
+pub mod Values
+pub mod Maps
+pub mod HeldLists
+pub mod HeldQuotients
+pub mod WholeResidues
+pub mod Chinese

@@ -94,16 +94,16 @@ module _ (R : CommRing) where
         go true = refl
         go false = sym (mul_zero R a)
 
-    pub spread-const : (a : C) (i : ℕ) → spread o k (const o a) i ≡ const o a i
-    spread-const a i = spread_is (const o a) i ∙ ap (λ z. const o a i + z) (shifted_cong k (spread o k (zeros o)) (zeros o) nothing i ∙ none k i) ∙ add_zero R (const o a i)
+    pub spread-zeros : (i : ℕ) → spread o k (zeros o) i ≡ 𝟘
+    spread-zeros i = go (eqb (i % k) 0)
       where
-        nothing : (i : ℕ) → spread o k (zeros o) i ≡ 𝟘
-        nothing i = go (eqb (i % k) 0)
-          where
-            go : (b : Bool) → cond b 𝟘 𝟘 ≡ 𝟘
-            go true = refl
-            go false = refl
+        go : (b : Bool) → cond b 𝟘 𝟘 ≡ 𝟘
+        go true = refl
+        go false = refl
 
+    pub spread-const : (a : C) (i : ℕ) → spread o k (const o a) i ≡ const o a i
+    spread-const a i = spread_is (const o a) i ∙ ap (λ z. const o a i + z) (shifted_cong k (spread o k (zeros o)) (zeros o) spread-zeros i ∙ none k i) ∙ add_zero R (const o a i)
+      where
         none : (k i : ℕ) → shifted o k (zeros o) i ≡ 𝟘
         none zero i = refl
         none (suc k) zero = refl

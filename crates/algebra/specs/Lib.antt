@@ -4,3 +4,5 @@ pub mod Range
 pub mod Divisor
 pub mod Power
 pub mod Series
+pub mod Poly
+pub mod Whole

@@ -1,0 +1,40 @@
+-- Whole numbers: residues, balanced residues, being equal up to a multiple, quotients.
+use Rattle.std.specs.List.{AllZip}
+use Rattle.algebra.specs.Divisor.{HasInverse}
+use Rattle.std.specs.Prelude.{◌≡◌, ℕ, zero, suc, ◌-◌, ◌*◌, ◌/◌, ◌%◌, ◌<◌, cond, leb, List, [], ◌∷◌, ◌++◌, AllPairs, ℤ, pos, negsuc, ◌+ℤ◌, ◌-ℤ◌, ◌*ℤ◌}
+
+-- the numbers below n, in order
+abbrev pub below : ℕ → List ℕ
+below zero = []
+below (suc n) = below n ++ n ∷ []
+
+-- the least number congruent to z modulo n
+abbrev pub residue : ℕ → ℤ → ℕ
+residue n (pos a) = a % n
+residue n (negsuc a) = n - 1 - a % n
+
+-- the r congruent to z modulo n with -n/2 < r <= n/2
+abbrev pub balanced : ℕ → ℤ → ℤ
+balanced n z = let r = residue n z in cond (leb (2 * r) n) (pos r) (pos r -ℤ pos n)
+
+-- z / n, rounded down
+abbrev pub quotient : ℕ → ℤ → ℤ
+quotient n (pos a) = pos (a / n)
+quotient n (negsuc a) = negsuc (a / n)
+
+-- a and b are equal up to a multiple of n
+abbrev pub SameModulo : ℕ → ℤ → ℤ → Type 0
+SameModulo n a b = (k : ℤ) × (a ≡ b +ℤ pos n *ℤ k)
+
+abbrev pub product_of : List ℕ → ℕ
+product_of [] = 1
+product_of (x ∷ xs) = x * product_of xs
+
+-- each modulus has an inverse modulo each later one
+abbrev pub AreInvertible : List ℕ → Type 0
+AreInvertible qs = AllPairs (λ q r. HasInverse r q) qs
+
+-- x is the number below the product of qs whose residues modulo qs are rs
+pub record IsChinese (qs rs : List ℕ) (x : ℕ) : Type 0 where
+  pub small : x < product_of qs
+  pub residues : AllZip (λ q r. x % q ≡ r) qs rs
