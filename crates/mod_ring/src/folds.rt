@@ -1,7 +1,7 @@
 //! Powers, sums and values of polynomials over any ring.
 ghost use Rattle.std.specs.Prelude.{◌≡◌, IsTrue, IfOk, All, map};
 ghost use Rattle.algebra.specs.Power.{power};
-ghost use Rattle.mod_ring.specs.Values.{sum, value_at};
+ghost use Rattle.algebra.specs.Poly.{sum, value_at};
 
 use crate::rings::Ring;
 use std::alloc::{AllocError, Global};

@@ -43,7 +43,7 @@ fn reduce_wide(p: u128, modulus: u64, reciprocal: u64) -> u64
 }
 
 impl Zq {
-    ghost use Rattle.mod_ring.specs.Whole.{residue, balanced};
+    ghost use Rattle.algebra.specs.Whole.{residue, balanced};
     ghost use Rattle.mod_ring.specs.Zq.{modulus_of};
 
     /// The residues modulo q; none where q is below 2 or from 2^62 on.

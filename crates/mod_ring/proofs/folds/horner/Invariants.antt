@@ -1,5 +1,5 @@
 use Rattle.std.proofs.Common.{◌≡◌, IsTrue, map, drop}
-use Rattle.mod_ring.specs.Values.{value_at}
+use Rattle.algebra.specs.Poly.{value_at}
 use Rattle.mod_ring.proofs.folds.horner.Given as goal
 
 abbrev pub invariant-loop-i : goal.invariant-loop-i

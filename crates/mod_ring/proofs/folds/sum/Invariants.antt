@@ -1,5 +1,5 @@
 use Rattle.std.proofs.Common.{◌≡◌, IsTrue, map, drop}
-use Rattle.mod_ring.specs.Values.{sum}
+use Rattle.algebra.specs.Poly.{sum}
 use Rattle.mod_ring.proofs.folds.sum.Given as goal
 
 abbrev pub invariant-loop-i : goal.invariant-loop-i
