@@ -1,0 +1,5 @@
+pub mod Elements
+pub mod Torus
+pub mod Arrays
+pub mod Meaning
+pub mod Table

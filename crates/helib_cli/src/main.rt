@@ -1,0 +1,7 @@
+//! Runs one command of its words over the files of the current folder, and prints the answer.
+#![tactic(auto)]
+
+mod arrays;
+mod elements;
+
+fn main() {}
