@@ -3,3 +3,4 @@ pub mod Torus
 pub mod Arrays
 pub mod Meaning
 pub mod Table
+pub mod Commands

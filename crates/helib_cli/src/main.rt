@@ -2,6 +2,9 @@
 #![tactic(auto)]
 
 mod arrays;
+mod cause;
+mod command;
 mod elements;
+mod names;
 
 fn main() {}
