@@ -4,3 +4,4 @@ pub mod Arrays
 pub mod Meaning
 pub mod Table
 pub mod Commands
+pub mod Program

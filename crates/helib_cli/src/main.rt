@@ -3,8 +3,10 @@
 
 mod arrays;
 mod cause;
+mod clear;
 mod command;
 mod elements;
 mod names;
+mod program;
 
 fn main() {}
