@@ -1,2 +1,6 @@
 pub mod FileTexts
+pub mod LineLemmas
 pub mod NameTests
+pub mod NumberLemmas
+pub mod PieceLemmas
+pub mod SeedLemmas

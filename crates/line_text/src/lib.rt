@@ -4,6 +4,12 @@
 
 mod kinds;
 mod names;
+mod numbers;
+mod seeds;
+mod splitting;
 
 pub use kinds::{FileKind, FileName, TableKey, law_file_text};
 pub use names::Name;
+pub use numbers::{law_numbers, number, put_number};
+pub use seeds::read_seed;
+pub use splitting::{law_pieces, lines, words};
