@@ -1,6 +1,6 @@
 //! The files of the current folder and the standard output, the edge to the system.
-ghost use Rattle.std.specs.Prelude.{◌≡◌};
-ghost use Rattle.shelf_core.specs.Outcomes.{Rises, HeldCounts, LoadedCounts, SavedCounts, PutCounts};
+ghost use Rattle.std.specs.Prelude.{◌≡◌, ◌<◌, ◌≤◌, length, Err, IfOk, IfSome};
+ghost use Rattle.shelf_core.specs.Outcomes.{FindsAtMost, Rises, LoadedCounts, SavedCounts};
 
 use crate::outside::{Held, Loaded, Put, Saved, Shelf, Sink};
 use line_text::FileName;
@@ -71,7 +71,10 @@ impl<R: Files> Shelf for FolderShelf<'_, R> {
         }
     }
 
-    fn load(&mut self, alloc: Global, name: &FileName) -> Loaded {
+    fn load(&mut self, alloc: Global, name: &FileName) -> Loaded
+        ensures within { FindsAtMost LONGEST_FILE result }
+        ensures counts { LoadedCounts result self.old self.new }
+    {
         match read_file(self.rt, alloc, name) {
             Ok(Some(bytes)) => Loaded::Found(bytes),
             Ok(None) => Loaded::Absent,
@@ -83,7 +86,10 @@ impl<R: Files> Shelf for FolderShelf<'_, R> {
         }
     }
 
-    fn save(&mut self, alloc: Global, name: &FileName, bytes: &[u8]) -> Saved {
+    fn save(&mut self, alloc: Global, name: &FileName, bytes: &[u8]) -> Saved
+        ensures too_long { LONGEST_FILE < length bytes.now → result ≡ Saved.Failed }
+        ensures counts { SavedCounts result self.old self.new }
+    {
         match write_file(self.rt, alloc, name, bytes) {
             Ok(()) => Saved::Done,
             Err(Stop::Memory) => Saved::Memory,
@@ -136,7 +142,9 @@ fn file_length<R: Files>(rt: &R, alloc: Global, name: &FileName) -> Result<Optio
 }
 
 /// The bytes of the file, if there is one.
-fn read_file<R: Files>(rt: &R, alloc: Global, name: &FileName) -> Result<Option<Vec<u8>>, Stop> {
+fn read_file<R: Files>(rt: &R, alloc: Global, name: &FileName) -> Result<Option<Vec<u8>>, Stop>
+    ensures { IfOk result (λ found. IfSome found (λ bytes. length bytes.items ≤ LONGEST_FILE)) }
+{
     let Some(length) = file_length(rt, alloc, name)? else {
         return Ok(None);
     };
@@ -156,7 +164,9 @@ fn read_file<R: Files>(rt: &R, alloc: Global, name: &FileName) -> Result<Option<
 
 /// Makes the file and writes its bytes. An error in writing is a fault of whatever kind, since a
 /// front of the file may be there.
-fn write_file<R: Files>(rt: &R, alloc: Global, name: &FileName, bytes: &[u8]) -> Result<(), Stop> {
+fn write_file<R: Files>(rt: &R, alloc: Global, name: &FileName, bytes: &[u8]) -> Result<(), Stop>
+    ensures { LONGEST_FILE < length bytes.now → result ≡ Err Stop.Fault }
+{
     if bytes.len() as u64 > LONGEST_FILE {
         return Err(Stop::Fault);
     }
