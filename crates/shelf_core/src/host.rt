@@ -1,5 +1,6 @@
 //! The files of the current folder and the standard output, the edge to the system.
-ghost use Rattle.std.specs.Prelude.{◌≡◌, ◌<◌, ◌≤◌, length, Err, IfOk, IfSome};
+ghost use Rattle.std.specs.Prelude.{◌≡◌, ◌<◌, ◌≤◌, length, string_bytes, Err, IfOk, IfSome};
+ghost use Rattle.line_text.specs.Kinds.{file_text};
 ghost use Rattle.shelf_core.specs.Outcomes.{FindsAtMost, Rises, LoadedCounts, SavedCounts};
 
 use crate::outside::{Held, Loaded, Put, Saved, Shelf, Sink};
@@ -124,7 +125,9 @@ impl From<io::Error> for Stop {
 }
 
 /// The path of the file, from the current folder.
-fn path_of(alloc: Global, name: &FileName) -> Result<String, Stop> {
+fn path_of(alloc: Global, name: &FileName) -> Result<String, Stop>
+    ensures { IfOk result (λ path. string_bytes path ≡ file_text name.now) }
+{
     let mut path = Vec::new(alloc);
     name.put(&mut path)?;
     String::from_utf8(path).map_err(|_| Stop::Fault)
