@@ -1,5 +1,6 @@
 //! The files of the current folder and the standard output, the edge to the system.
-ghost use Rattle.std.specs.Prelude.{◌≡◌, ◌<◌, ◌≤◌, length, string_bytes, Err, IfOk, IfSome};
+ghost use Rattle.std.specs.Prelude.{◌≡◌, ◌≢◌, ◌<◌, ◌≤◌, length, string_bytes, Err, IfOk, IfSome};
+ghost use Rattle.std.specs.IoError.{error_kind};
 ghost use Rattle.line_text.specs.Kinds.{file_text};
 ghost use Rattle.shelf_core.specs.Outcomes.{FindsAtMost, Rises, LoadedCounts, SavedCounts};
 
@@ -110,13 +111,21 @@ enum Stop {
 }
 
 impl From<AllocError> for Stop {
+    ghost use Rattle.std.specs.Prelude.{◌≡◌};
+    ghost use Rattle.shelf_core.specs.declared.host.Stop.TheVariants.{Memory};
+
+    ghost from_gives = { λ _ stop. stop ≡ Memory };
+
     fn from(_error: AllocError) -> Stop {
         Stop::Memory
     }
 }
 
 impl From<io::Error> for Stop {
-    fn from(error: io::Error) -> Stop {
+    fn from(error: io::Error) -> Stop
+        ensures memory { error_kind error ≡ ErrorKind.OutOfMemory → result ≡ Stop.Memory }
+        ensures fault { error_kind error ≢ ErrorKind.OutOfMemory → result ≡ Stop.Fault }
+    {
         match error.kind() {
             ErrorKind::OutOfMemory => Stop::Memory,
             _ => Stop::Fault,
