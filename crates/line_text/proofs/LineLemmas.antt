@@ -7,12 +7,12 @@ use Rattle.line_text.specs.Lines.{without_return, without_empty_last, lines_of}
 use Rattle.line_text.specs.Words.{words_of}
 use Rattle.line_text.proofs.PieceLemmas.{pieces_cut, pieces_uncut, are_pieces_alone}
 
-keeps_first : (piece : List ℕ) (list : List (List ℕ)) → 0 < length list → without_empty_last (piece ∷ list) ≡ piece ∷ without_empty_last list
+pub keeps_first : (piece : List ℕ) (list : List (List ℕ)) → 0 < length list → without_empty_last (piece ∷ list) ≡ piece ∷ without_empty_last list
 keeps_first piece [] some = absurd (omega arith)
 keeps_first [] (next ∷ more) some = refl
 keeps_first (byte ∷ piece) (next ∷ more) some = refl
 
-keeps_only : (piece : List ℕ) → 0 < length piece → without_empty_last (piece ∷ []) ≡ piece ∷ []
+pub keeps_only : (piece : List ℕ) → 0 < length piece → without_empty_last (piece ∷ []) ≡ piece ∷ []
 keeps_only [] some = absurd (omega arith)
 keeps_only (byte ∷ piece) some = refl
 

@@ -77,3 +77,16 @@ pieces_uncut separator text none = (
   take_all _ text none,
   drop_all _ text (omega arith),
 )
+
+-- a piece with no separator, before one, is the first piece; alone it is the only one
+pub pieces-piece : (separator : ℕ) (piece text : List ℕ) → holds_byte separator piece ≡ false → pieces separator (piece ++ separator ∷ text) ≡ piece ∷ pieces separator text
+unfolding pieces
+pieces-piece separator piece text apart = slice_split-piece separator piece text apart
+
+pub pieces-last : (separator : ℕ) (piece : List ℕ) → holds_byte separator piece ≡ false → pieces separator piece ≡ piece ∷ []
+unfolding pieces
+pieces-last separator piece apart = slice_split-last separator piece apart
+
+pub pieces-join : (separator : ℕ) (list : List (List ℕ)) → 0 < length list → list_any (holds_byte separator) list ≡ false → pieces separator (join_with_byte separator list) ≡ list
+unfolding pieces
+pieces-join separator list some apart = slice_split-join separator list some apart

@@ -11,5 +11,5 @@ mod splitting;
 pub use kinds::{FileKind, FileName, TableKey, law_file_text};
 pub use names::Name;
 pub use numbers::{law_numbers, number, put_number};
-pub use seeds::read_seed;
-pub use splitting::{law_pieces, lines, words};
+pub use seeds::{law_seeds, read_seed};
+pub use splitting::{law_lines, law_pieces, law_words, lines, words};

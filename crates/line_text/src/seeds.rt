@@ -3,7 +3,7 @@ ghost use Rattle.std.specs.Prelude.{◌≡◌, ◌<◌, IfSome, Some, None, if�
 ghost use Rattle.std.specs.Char.{digit_value};
 ghost use Rattle.std.specs.Option.{option_copied};
 ghost use Rattle.line_text.specs.Lines.{lines_of};
-ghost use Rattle.line_text.specs.Seeds.{is_seed_digit, only_line, seed_of, seed_of_line};
+ghost use Rattle.line_text.specs.Seeds.{is_seed_digit, only_line, seed_of, seed_of_line, SpellsOneSeed};
 
 use crate::splitting::{cut, without_return};
 
@@ -58,3 +58,9 @@ fn half(digit: u8) -> Option<u8>
         _ => None,
     }
 }
+
+/// The law that a text spells a seed exactly where its lines are one, the 64 digits of the seed's
+/// 32 bytes.
+pub fn law_seeds()
+    ensures { SpellsOneSeed }
+{}

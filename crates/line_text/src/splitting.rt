@@ -2,8 +2,8 @@
 ghost use Rattle.std.specs.Prelude.{◌≡◌, ◌==◌, IfOk, map};
 ghost use Rattle.std.specs.List.{position_or_len, before_first, after_first};
 ghost use Rattle.line_text.specs.Pieces.{ArePiecesAlone};
-ghost use Rattle.line_text.specs.Lines.{without_return, lines_of};
-ghost use Rattle.line_text.specs.Words.{words_of};
+ghost use Rattle.line_text.specs.Lines.{without_return, lines_of, ReadsPrintedLines};
+ghost use Rattle.line_text.specs.Words.{words_of, ReadsPrintedWords};
 
 use std::alloc::{AllocError, Global};
 
@@ -78,4 +78,16 @@ pub(crate) fn without_return(line: &[u8]) -> &[u8]
 /// the text again, and that this is so of no other list of at least one piece.
 pub fn law_pieces()
     ensures { ArePiecesAlone }
+{}
+
+/// The law that lines which hold no newline and no byte 13 at their end, printed with a newline
+/// after each, are read as the same lines.
+pub fn law_lines()
+    ensures { ReadsPrintedLines }
+{}
+
+/// The law that words which are not empty and hold no space, printed with one space between, are
+/// read as the same words.
+pub fn law_words()
+    ensures { ReadsPrintedWords }
 {}

@@ -1,5 +1,5 @@
 -- The files that a shelf tells, as a list in the order in which they were written.
-use Rattle.std.specs.Prelude.{◌≢◌, ℕ, Bool, ◌&&◌, List, [], ◌∷◌, Option, Some, None, map, nat_eq, bytes_eq, AllPairs, if◌then◌else◌}
+use Rattle.std.specs.Prelude.{◌≡◌, ◌≢◌, ◌↔◌, ℕ, Bool, ◌&&◌, IsTrue, List, [], ◌∷◌, ◌++◌, Option, Some, None, map, nat_eq, bytes_eq, AllPairs, Contains, if◌then◌else◌}
 use Rattle.std.specs.declared.vec.Vec.{Vec}
 use Rattle.std.specs.declared.alloc.Global.{Global}
 use Rattle.line_text.specs.declared.kinds.FileKind.{FileKind}
@@ -44,3 +44,19 @@ file_of pair = record { name = pair.0; bytes = pair.1.items }
 -- the files of a list in memory
 abbrev pub files_of : List (FileName × Vec ℕ Global) → List File
 files_of pairs = map file_of pairs
+
+-- the test of two names passes exactly where they are equal
+abbrev pub TestsNames : Type 0
+TestsNames = (a b : FileName) → IsTrue (same_file a b) ↔ (a ≡ b)
+
+-- among files of distinct names, what is held under a name is what the one file of that name has
+abbrev pub FindsTheFile : Type 0
+FindsTheFile =
+    (files : List File) → AreDistinct files → (name : FileName) (bytes : List ℕ)
+    → (bytes_of name files ≡ Some bytes) ↔ Contains files (record { name = name; bytes = bytes })
+
+-- a file of a new name at the end is held under its name, and all else is held as before
+abbrev pub AddsTheFile : Type 0
+AddsTheFile =
+    (files : List File) (file : File) → bytes_of file.name files ≡ None → (name : FileName)
+    → bytes_of name (files ++ file ∷ []) ≡ (if same_file file.name name then Some file.bytes else bytes_of name files)

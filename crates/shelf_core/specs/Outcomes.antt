@@ -28,6 +28,13 @@ IsLoaded load.Absent found = found ≡ None
 IsLoaded load.Failed found = ⊤
 IsLoaded load.Memory found = ⊤
 
+-- what `load` found is at most so long
+abbrev pub FindsAtMost : ℕ → Loaded → Type 0
+FindsAtMost longest (load.Found bytes) = length bytes.items ≤ longest
+FindsAtMost longest load.Absent = ⊤
+FindsAtMost longest load.Failed = ⊤
+FindsAtMost longest load.Memory = ⊤
+
 -- the files before and after a `save` of the file
 abbrev pub IsSaved : Saved → File → List File → List File → Type 0
 IsSaved save.Done file old new = new ≡ old ++ file ∷ []

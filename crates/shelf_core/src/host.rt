@@ -1,6 +1,8 @@
 //! The files of the current folder and the standard output, the edge to the system.
-ghost use Rattle.std.specs.Prelude.{◌≡◌};
-ghost use Rattle.shelf_core.specs.Outcomes.{Rises, HeldCounts, LoadedCounts, SavedCounts, PutCounts};
+ghost use Rattle.std.specs.Prelude.{◌≡◌, ◌≢◌, ◌<◌, ◌≤◌, length, string_bytes, Err, IfOk, IfSome};
+ghost use Rattle.std.specs.IoError.{error_kind};
+ghost use Rattle.line_text.specs.Kinds.{file_text};
+ghost use Rattle.shelf_core.specs.Outcomes.{FindsAtMost, Rises, LoadedCounts, SavedCounts};
 
 use crate::outside::{Held, Loaded, Put, Saved, Shelf, Sink};
 use line_text::FileName;
@@ -71,7 +73,10 @@ impl<R: Files> Shelf for FolderShelf<'_, R> {
         }
     }
 
-    fn load(&mut self, alloc: Global, name: &FileName) -> Loaded {
+    fn load(&mut self, alloc: Global, name: &FileName) -> Loaded
+        ensures within { FindsAtMost LONGEST_FILE result }
+        ensures counts { LoadedCounts result self.old self.new }
+    {
         match read_file(self.rt, alloc, name) {
             Ok(Some(bytes)) => Loaded::Found(bytes),
             Ok(None) => Loaded::Absent,
@@ -83,7 +88,10 @@ impl<R: Files> Shelf for FolderShelf<'_, R> {
         }
     }
 
-    fn save(&mut self, alloc: Global, name: &FileName, bytes: &[u8]) -> Saved {
+    fn save(&mut self, alloc: Global, name: &FileName, bytes: &[u8]) -> Saved
+        ensures too_long { LONGEST_FILE < length bytes.now → result ≡ Saved.Failed }
+        ensures counts { SavedCounts result self.old self.new }
+    {
         match write_file(self.rt, alloc, name, bytes) {
             Ok(()) => Saved::Done,
             Err(Stop::Memory) => Saved::Memory,
@@ -103,13 +111,21 @@ enum Stop {
 }
 
 impl From<AllocError> for Stop {
+    ghost use Rattle.std.specs.Prelude.{◌≡◌};
+    ghost use Rattle.shelf_core.specs.declared.host.Stop.TheVariants.{Memory};
+
+    ghost from_gives = { λ _ stop. stop ≡ Memory };
+
     fn from(_error: AllocError) -> Stop {
         Stop::Memory
     }
 }
 
 impl From<io::Error> for Stop {
-    fn from(error: io::Error) -> Stop {
+    fn from(error: io::Error) -> Stop
+        ensures memory { error_kind error ≡ ErrorKind.OutOfMemory → result ≡ Stop.Memory }
+        ensures fault { error_kind error ≢ ErrorKind.OutOfMemory → result ≡ Stop.Fault }
+    {
         match error.kind() {
             ErrorKind::OutOfMemory => Stop::Memory,
             _ => Stop::Fault,
@@ -118,7 +134,9 @@ impl From<io::Error> for Stop {
 }
 
 /// The path of the file, from the current folder.
-fn path_of(alloc: Global, name: &FileName) -> Result<String, Stop> {
+fn path_of(alloc: Global, name: &FileName) -> Result<String, Stop>
+    ensures { IfOk result (λ path. string_bytes path ≡ file_text name.now) }
+{
     let mut path = Vec::new(alloc);
     name.put(&mut path)?;
     String::from_utf8(path).map_err(|_| Stop::Fault)
@@ -136,7 +154,9 @@ fn file_length<R: Files>(rt: &R, alloc: Global, name: &FileName) -> Result<Optio
 }
 
 /// The bytes of the file, if there is one.
-fn read_file<R: Files>(rt: &R, alloc: Global, name: &FileName) -> Result<Option<Vec<u8>>, Stop> {
+fn read_file<R: Files>(rt: &R, alloc: Global, name: &FileName) -> Result<Option<Vec<u8>>, Stop>
+    ensures { IfOk result (λ found. IfSome found (λ bytes. length bytes.items ≤ LONGEST_FILE)) }
+{
     let Some(length) = file_length(rt, alloc, name)? else {
         return Ok(None);
     };
@@ -156,7 +176,9 @@ fn read_file<R: Files>(rt: &R, alloc: Global, name: &FileName) -> Result<Option<
 
 /// Makes the file and writes its bytes. An error in writing is a fault of whatever kind, since a
 /// front of the file may be there.
-fn write_file<R: Files>(rt: &R, alloc: Global, name: &FileName, bytes: &[u8]) -> Result<(), Stop> {
+fn write_file<R: Files>(rt: &R, alloc: Global, name: &FileName, bytes: &[u8]) -> Result<(), Stop>
+    ensures { LONGEST_FILE < length bytes.now → result ≡ Err Stop.Fault }
+{
     if bytes.len() as u64 > LONGEST_FILE {
         return Err(Stop::Fault);
     }

@@ -7,12 +7,14 @@
 //! - [`FolderShelf`] and [`OutSink`] are the files of the current folder and the standard output.
 #![tactic(auto)]
 
+mod files;
 mod host;
 mod memory;
 mod numbered;
 mod outside;
 mod sure;
 
+pub use files::{are_distinct, law_files};
 pub use host::{FolderShelf, OutSink};
 pub use memory::{MemShelf, MemSink};
 pub use outside::{Held, Loaded, Put, Saved, Shelf, Sink};

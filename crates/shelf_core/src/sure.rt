@@ -3,6 +3,7 @@ ghost use Rattle.std.specs.Prelude.{◌≡◌, ◌∷◌, ◌++◌, [], false, N
 ghost use Rattle.shelf_core.specs.Files.{bytes_of, files_of, AreDistinct};
 ghost use Rattle.shelf_core.specs.Outcomes.{IsHeld, IsLoaded, IsSaved, IsPut, held_failed, load_failed, save_failed, put_failed};
 
+use crate::files::find;
 use crate::outside::{Held, Loaded, Put, Saved, Shelf, Sink};
 use line_text::FileName;
 use std::alloc::{AllocError, Global};
@@ -58,18 +59,6 @@ impl SureShelf {
         self.files.push((name, bytes))?;
         Ok(())
     }
-}
-
-/// The bytes beside the first equal name.
-fn find<'a>(files: &'a [(FileName, Vec<u8>)], name: &FileName) -> Option<&'a [u8]>
-    ensures { option_map (λ bytes. bytes.now) result ≡ bytes_of name.now (files_of files.now) }
-{
-    for (held, bytes) in files {
-        if held.is(name) {
-            return Some(bytes.as_slice());
-        }
-    }
-    None
 }
 
 impl Shelf for SureShelf {

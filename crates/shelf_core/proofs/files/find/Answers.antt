@@ -1,6 +1,6 @@
 use Rattle.std.proofs.Common.{sym, ◌∙◌, arith}
 use Rattle.shelf_core.proofs.FileLemmas.{bytes_of-here, bytes_of-later}
-use Rattle.shelf_core.proofs.sure.find.Goals as goal
+use Rattle.shelf_core.proofs.files.find.Goals as goal
 
 pub returns-then-is : goal.returns-then-is
 returns-then-is c =

@@ -1,6 +1,6 @@
 use Rattle.std.proofs.Common.{◌≡◌, drop}
 use Rattle.shelf_core.specs.Files.{bytes_of, files_of}
-use Rattle.shelf_core.proofs.sure.find.Given as goal
+use Rattle.shelf_core.proofs.files.find.Given as goal
 
 abbrev pub invariant-loop-held : goal.invariant-loop-held
 invariant-loop-held l =
