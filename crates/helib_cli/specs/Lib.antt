@@ -5,3 +5,10 @@ pub mod Meaning
 pub mod Table
 pub mod Commands
 pub mod Program
+pub mod ProgramText
+pub mod SlotsText
+pub mod Document
+pub mod Machine
+pub mod Clauses
+pub mod Plain
+pub mod Report

@@ -1,6 +1,6 @@
 use Rattle.std.proofs.Common.{◌≡◌, map, drop, string_bytes}
 use Rattle.helib_cli.specs.Commands.{names_of}
-use Rattle.helib_cli.proofs.CommandLaws.{with_front}
+use Rattle.helib_cli.proofs.Fronts.{with_front}
 use Rattle.helib_cli.proofs.command.names_of.Given as goal
 
 abbrev pub invariant-loop-word : goal.invariant-loop-word
