@@ -16,6 +16,8 @@ mod reading;
 pub mod report;
 pub mod session;
 mod slots_text;
+#[cfg(test)]
+mod tests;
 
 use crate::cause::{Cause, Status};
 use crate::report::{number, report};
