@@ -8,93 +8,110 @@ use std::alloc::Global;
 use std::process::Abort;
 use std::test::Fail;
 
-const TABLE: &str =
-    "m = 7\np = 2\nfactor = [1, 1, 0, 1]\ndual = [[1,0,0],[0,0,1],[0,1,0]]\ngenerators = [[6, 2]]\n";
+/// The files of the shelf, one a line: its name, a colon, and its text, where `;` stands for a
+/// newline and `~` for byte 13.
+const FILES: &str =
+    "a.table:m = 7;p = 2;factor = [1, 1, 0, 1];dual = [[1,0,0],[0,0,1],[0,1,0]];generators = [[6, 2]];
+turned.table:generators=[[6,2]]#~;factor=[1,1,0,1]~;dual=[[1,0,0],[0,0,1],[0,1,0],]~;p=0x2;m=+7
+weighted.table:m = 7;p = 2;factor = [1, 1, 0, 1];dual = [[1,0,0],[0,0,1],[0,1,0]];generators = [[6, 2]];weight = 2;
+short.table:m = 7;p = 2;factor = [1, 1, 0, 1];dual = [[1,0,0],[0,0,1],[0,1,0]];
+other.table:m = 7;p = 2;factor = [1, 1, 0, 1];dual = [[1,0,0],[0,0,1],[0,1,0]];generators = [[3, 2]];
+longer.table:m = 7;p = 2;factor = [1, 1, 0, 1, 0];dual = [[1,0,0],[0,0,1],[0,1,0]];generators = [[6, 2]];
+broken.table:m =
+empty.table:
+prod.prog:input x;input y;z = mul x y;output z;
+same.prog:input x;output x;
+sum.prog:input x;input y;z = add x y;output z;
+fifth.prog:input x;y = mul x x;z = mul y y;v = mul z x;w = add v y;output w;
+odd.prog:#input q;;  input   input ~;output = mul input input; # # ;output output
+minus.prog:input x;input y;z = sub x y;output z;
+twice.prog:input x;x = add x x;output x;
+later.prog:input x;z = add x y;y = add x x;output z;
+after.prog:input x;output x;y = add x x;
+double.prog:input x;output x;output x;
+endless.prog:input x;
+long.prog:input x;output x x;
+empty.prog:
+x.slots:0 1 0;1 0 0;
+y.slots:0 0 1;1 1 1;
+spaced.slots:  00  1 0 ~;1 0 0
+two.slots:0 2 0;1 0 0;
+one.slots:0 1 0;
+three.slots:0 1 0;1 0 0;1 0 0;";
 
-/// The files of the shelf.
-const FILES: [(&str, FileKind, &str); 27] = [
-    ("a", FileKind::Table, TABLE),
-    (
-        "turned",
-        FileKind::Table,
-        "generators=[[6,2]]#\r\nfactor=[1,1,0,1]\r\ndual=[[1,0,0],[0,0,1],[0,1,0],]\r\np=0x2\r\nm=+7",
-    ),
-    (
-        "weighted",
-        FileKind::Table,
-        "m = 7\np = 2\nfactor = [1, 1, 0, 1]\ndual = [[1,0,0],[0,0,1],[0,1,0]]\ngenerators = [[6, 2]]\nweight = 2\n",
-    ),
-    (
-        "short",
-        FileKind::Table,
-        "m = 7\np = 2\nfactor = [1, 1, 0, 1]\ndual = [[1,0,0],[0,0,1],[0,1,0]]\n",
-    ),
-    (
-        "other",
-        FileKind::Table,
-        "m = 7\np = 2\nfactor = [1, 1, 0, 1]\ndual = [[1,0,0],[0,0,1],[0,1,0]]\ngenerators = [[3, 2]]\n",
-    ),
-    (
-        "longer",
-        FileKind::Table,
-        "m = 7\np = 2\nfactor = [1, 1, 0, 1, 0]\ndual = [[1,0,0],[0,0,1],[0,1,0]]\ngenerators = [[6, 2]]\n",
-    ),
-    ("broken", FileKind::Table, "m = "),
-    ("empty", FileKind::Table, ""),
-    (
-        "prod",
-        FileKind::Prog,
-        "input x\ninput y\nz = mul x y\noutput z\n",
-    ),
-    ("same", FileKind::Prog, "input x\noutput x\n"),
-    (
-        "sum",
-        FileKind::Prog,
-        "input x\ninput y\nz = add x y\noutput z\n",
-    ),
-    (
-        "fifth",
-        FileKind::Prog,
-        "input x\ny = mul x x\nz = mul y y\nv = mul z x\nw = add v y\noutput w\n",
-    ),
-    (
-        "odd",
-        FileKind::Prog,
-        "#input q\n\n  input   input \r\noutput = mul input input\n # # \noutput output",
-    ),
-    (
-        "minus",
-        FileKind::Prog,
-        "input x\ninput y\nz = sub x y\noutput z\n",
-    ),
-    ("twice", FileKind::Prog, "input x\nx = add x x\noutput x\n"),
-    (
-        "later",
-        FileKind::Prog,
-        "input x\nz = add x y\ny = add x x\noutput z\n",
-    ),
-    ("after", FileKind::Prog, "input x\noutput x\ny = add x x\n"),
-    ("double", FileKind::Prog, "input x\noutput x\noutput x\n"),
-    ("endless", FileKind::Prog, "input x\n"),
-    ("long", FileKind::Prog, "input x\noutput x x\n"),
-    ("empty", FileKind::Prog, ""),
-    ("x", FileKind::Slots, "0 1 0\n1 0 0\n"),
-    ("y", FileKind::Slots, "0 0 1\n1 1 1\n"),
-    ("spaced", FileKind::Slots, "  00  1 0 \r\n1 0 0"),
-    ("two", FileKind::Slots, "0 2 0\n1 0 0\n"),
-    ("one", FileKind::Slots, "0 1 0\n"),
-    ("three", FileKind::Slots, "0 1 0\n1 0 0\n1 0 0\n"),
-];
+/// What each line prints and reports, in the same spelling, and the exit status.
+const ROWS: &str = "clear a prod x y:1 1 0;1 1 1;:0
+clear a same x:0 1 0;1 0 0;:0
+clear a sum x y:0 1 1;0 1 1;:0
+clear a fifth x:1 1 0;0 0 0;:0
+clear a odd x:0 0 1;1 0 0;:0
+clear a same spaced:0 1 0;1 0 0;:0
+clear turned same y:0 0 1;1 1 1;:0
+:stopped 0 Words;:2
+clear:stopped 0 Words;:2
+clear a:stopped 0 Words;:2
+clear a prod:stopped 0 Words;:2
+clear A prod x:stopped 0 Words;:2
+clear a prod.prog x:stopped 0 Words;:2
+clear a same x Y:stopped 0 Words;:2
+Clear a same x:stopped 0 Words;:2
+table a:stopped 0 Words;:2
+clear q prod x:stopped 0 NoFile q.table;:3
+clear a q x:stopped 0 NoFile q.prog;:3
+clear a prod x q:stopped 0 NoFile q.slots;:3
+clear x x x:stopped 0 NoFile x.table;:3
+clear weighted q x:stopped 0 NotBuilt weighted.table;:50
+clear short same x:stopped 0 NotBuilt short.table;:50
+clear other same x:stopped 0 NotBuilt other.table;:50
+clear longer same x:stopped 0 NotBuilt longer.table;:50
+clear broken same x:stopped 0 NotBuilt broken.table;:50
+clear empty same x:stopped 0 NotBuilt empty.table;:50
+clear a minus x y:stopped 0 NotBuilt minus.prog;:50
+clear a prod q:stopped 0 NotBuilt prod.prog;:50
+clear a same x y:stopped 0 NotBuilt same.prog;:50
+clear a twice x:stopped 0 NotBuilt twice.prog;:50
+clear a later x:stopped 0 NotBuilt later.prog;:50
+clear a after x:stopped 0 NotBuilt after.prog;:50
+clear a double x:stopped 0 NotBuilt double.prog;:50
+clear a endless x:stopped 0 NotBuilt endless.prog;:50
+clear a long x:stopped 0 NotBuilt long.prog;:50
+clear a empty x:stopped 0 NotBuilt empty.prog;:50
+clear a same two:stopped 0 NotBuilt two.slots;:50
+clear a same one:stopped 0 NotBuilt one.slots;:50
+clear a same three:stopped 0 NotBuilt three.slots;:50";
+
+/// The bytes that the spelling of a text stands for.
+fn text_of(alloc: Global, spelling: &str) -> Result<Vec<u8>, Fail> {
+    let mut text = Vec::new(alloc);
+    for byte in spelling.bytes() {
+        text.push(match byte {
+            b';' => b'\n',
+            b'~' => b'\r',
+            other => other,
+        })?;
+    }
+    Ok(text)
+}
+
+/// The file name of a name and an extension with a dot between.
+fn file_name(alloc: Global, text: &str) -> Result<FileName, Fail> {
+    let (name, extension) = text.split_once('.').ok_or("no dot")?;
+    let kind = match extension {
+        "table" => FileKind::Table,
+        "prog" => FileKind::Prog,
+        "slots" => FileKind::Slots,
+        _ => return Err(Fail::from("no kind")),
+    };
+    let name = Name::read(alloc, name.as_bytes())?.ok_or("no name")?;
+    Ok(FileName { name, kind })
+}
 
 /// The files of the shelf in memory.
-fn files(alloc: Global) -> Result<Vec<(FileName, Vec<u8>)>, Fail> {
+fn files(alloc: Global, list: &str) -> Result<Vec<(FileName, Vec<u8>)>, Fail> {
     let mut files = Vec::new(alloc);
-    for (name, kind, text) in FILES {
-        let name = Name::read(alloc, name.as_bytes())?.ok_or("no name")?;
-        files.push((
-            FileName { name, kind },
-            Vec::from_slice(alloc, text.as_bytes())?,
-        ))?;
+    for row in list.lines() {
+        let (name, text) = row.split_once(':').ok_or("no colon")?;
+        files.push((file_name(alloc, name)?, text_of(alloc, text)?))?;
     }
     Ok(files)
 }
@@ -108,16 +125,16 @@ fn words_of(alloc: Global, line: &str) -> Result<Vec<String>, Fail> {
     Ok(words)
 }
 
-/// Runs a line over the files, where these calls of the shelf and of the sink fail. Gives what was
+/// Runs a line over these files, where these calls of the shelf and of the sink fail. Gives what was
 /// printed and the report, one after the other, and the status.
 fn run<R: Abort + AllocGlobal>(
     rt: &R,
     line: &str,
+    files: Vec<(FileName, Vec<u8>)>,
     shelf_failing: &[u64],
     sink_failing: &[u64],
-) -> Result<(String, Status), Fail> {
+) -> Result<(Vec<u8>, Status), Fail> {
     let alloc = rt.alloc();
-    let files = files(alloc)?;
     let count = files.len();
     assert!(rt; are_distinct(files.as_slice()));
     let mut shelf = MemShelf::new(files, Vec::from_slice(alloc, shelf_failing)?);
@@ -125,71 +142,44 @@ fn run<R: Abort + AllocGlobal>(
     let words = words_of(alloc, line)?;
     let status = session(alloc, &words, &mut shelf, &mut sink);
     assert_eq!(rt; shelf.files().len(), count, "in {line}");
-    let mut text = String::from_str(alloc, std::str::from_utf8(sink.bytes())?)?;
-    let report = report(alloc, &status)?;
-    text.push_str(std::str::from_utf8(report.as_slice())?)?;
+    let mut text = Vec::from_slice(alloc, sink.bytes())?;
+    text.extend_from_slice(report(alloc, &status)?.as_slice())?;
     Ok((text, status))
+}
+
+/// The files of all cases.
+fn file_list() -> &'static str {
+    FILES
+}
+
+/// The cases.
+fn rows() -> &'static str {
+    ROWS
+}
+
+/// Runs a line and compares what it prints and reports, and the status.
+fn check<R: Abort + AllocGlobal>(
+    rt: &R,
+    line: &str,
+    shelf_failing: &[u64],
+    sink_failing: &[u64],
+    spelling: &str,
+    status: u8,
+) -> Result<(), Fail> {
+    let files = files(rt.alloc(), file_list())?;
+    let (text, ended) = run(rt, line, files, shelf_failing, sink_failing)?;
+    let wanted = text_of(rt.alloc(), spelling)?;
+    assert_eq!(rt; text.as_slice(), wanted.as_slice(), "in {line}");
+    assert_eq!(rt; number(&ended), status, "in {line}");
+    Ok(())
 }
 
 #[test]
 fn sessions(rt: HostRuntime) -> Result<(), Fail> {
-    let rows = [
-        ("clear a prod x y", "1 1 0\n1 1 1\n", 0),
-        ("clear a same x", "0 1 0\n1 0 0\n", 0),
-        ("clear a sum x y", "0 1 1\n0 1 1\n", 0),
-        ("clear a fifth x", "1 1 0\n0 0 0\n", 0),
-        ("clear a odd x", "0 0 1\n1 0 0\n", 0),
-        ("clear a same spaced", "0 1 0\n1 0 0\n", 0),
-        ("clear turned same y", "0 0 1\n1 1 1\n", 0),
-        ("", "stopped 0 Words\n", 2),
-        ("clear", "stopped 0 Words\n", 2),
-        ("clear a", "stopped 0 Words\n", 2),
-        ("clear a prod", "stopped 0 Words\n", 2),
-        ("clear A prod x", "stopped 0 Words\n", 2),
-        ("clear a prod.prog x", "stopped 0 Words\n", 2),
-        ("clear a same x Y", "stopped 0 Words\n", 2),
-        ("Clear a same x", "stopped 0 Words\n", 2),
-        ("table a", "stopped 0 Words\n", 2),
-        ("clear q prod x", "stopped 0 NoFile q.table\n", 3),
-        ("clear a q x", "stopped 0 NoFile q.prog\n", 3),
-        ("clear a prod x q", "stopped 0 NoFile q.slots\n", 3),
-        ("clear x x x", "stopped 0 NoFile x.table\n", 3),
-        (
-            "clear weighted q x",
-            "stopped 0 NotBuilt weighted.table\n",
-            50,
-        ),
-        ("clear short same x", "stopped 0 NotBuilt short.table\n", 50),
-        ("clear other same x", "stopped 0 NotBuilt other.table\n", 50),
-        (
-            "clear longer same x",
-            "stopped 0 NotBuilt longer.table\n",
-            50,
-        ),
-        (
-            "clear broken same x",
-            "stopped 0 NotBuilt broken.table\n",
-            50,
-        ),
-        ("clear empty same x", "stopped 0 NotBuilt empty.table\n", 50),
-        ("clear a minus x y", "stopped 0 NotBuilt minus.prog\n", 50),
-        ("clear a prod q", "stopped 0 NotBuilt prod.prog\n", 50),
-        ("clear a same x y", "stopped 0 NotBuilt same.prog\n", 50),
-        ("clear a twice x", "stopped 0 NotBuilt twice.prog\n", 50),
-        ("clear a later x", "stopped 0 NotBuilt later.prog\n", 50),
-        ("clear a after x", "stopped 0 NotBuilt after.prog\n", 50),
-        ("clear a double x", "stopped 0 NotBuilt double.prog\n", 50),
-        ("clear a endless x", "stopped 0 NotBuilt endless.prog\n", 50),
-        ("clear a long x", "stopped 0 NotBuilt long.prog\n", 50),
-        ("clear a empty x", "stopped 0 NotBuilt empty.prog\n", 50),
-        ("clear a same two", "stopped 0 NotBuilt two.slots\n", 50),
-        ("clear a same one", "stopped 0 NotBuilt one.slots\n", 50),
-        ("clear a same three", "stopped 0 NotBuilt three.slots\n", 50),
-    ];
-    for (line, text, status) in rows {
-        let (found, ended) = run(&rt, line, &[], &[])?;
-        assert_eq!(rt; found.as_str(), text, "in {line}");
-        assert_eq!(rt; number(&ended), status, "in {line}");
+    for row in rows().lines() {
+        let (line, rest) = row.split_once(':').ok_or("no colon")?;
+        let (text, status) = rest.split_once(':').ok_or("no status")?;
+        check(&rt, line, &[], &[], text, status.parse::<u8>()?)?;
     }
     Ok(())
 }
@@ -197,23 +187,29 @@ fn sessions(rt: HostRuntime) -> Result<(), Fail> {
 #[test]
 fn each_call_fails(rt: HostRuntime) -> Result<(), Fail> {
     for call in 0..4u64 {
-        let (found, ended) = run(&rt, "clear a prod x y", &[call], &[])?;
-        assert_eq!(rt;
-            found.as_str(),
-            "stopped 0 ShelfFault 1\n",
-            "at call {call}"
-        );
-        assert_eq!(rt; number(&ended), 30);
+        check(
+            &rt,
+            "clear a prod x y",
+            &[call],
+            &[],
+            "stopped 0 ShelfFault 1;",
+            30,
+        )?;
     }
-    let (found, ended) = run(&rt, "clear a prod x y", &[4], &[0])?;
-    assert_eq!(rt; found.as_str(), "stopped 0 SinkFault 1\n");
-    assert_eq!(rt; number(&ended), 31);
-    Ok(())
+    check(
+        &rt,
+        "clear a prod x y",
+        &[4],
+        &[0],
+        "stopped 0 SinkFault 1;",
+        31,
+    )
 }
 
 #[test]
 fn session_always_memory(rt: HostRuntime) -> Result<(), Fail> {
-    let (_, ended) = run(&rt, "clear a prod x y", &[], &[])?;
+    let files = files(rt.alloc(), file_list())?;
+    let (_, ended) = run(&rt, "clear a prod x y", files, &[], &[])?;
     assert!(rt;
         !matches!(
             ended,
@@ -229,14 +225,11 @@ fn session_always_memory(rt: HostRuntime) -> Result<(), Fail> {
 #[test]
 fn names_of_64_bytes(rt: HostRuntime) -> Result<(), Fail> {
     let longest = "abcdefghijklmnopqrstuvwxyz0123456789_abcdefghijklmnopqrstuvwxyz0";
-    let mut line = format!(in rt.alloc(); "clear {longest} same x")?;
-    let (found, _) = run(&rt, line.as_str(), &[], &[])?;
-    let text = format!(in rt.alloc(); "stopped 0 NoFile {longest}.table\n")?;
-    assert_eq!(rt; found.as_str(), text.as_str());
-    line = format!(in rt.alloc(); "clear {longest}1 same x")?;
-    let (found, _) = run(&rt, line.as_str(), &[], &[])?;
-    assert_eq!(rt; found.as_str(), "stopped 0 Words\n");
-    Ok(())
+    let line = format!(in rt.alloc(); "clear {longest} same x")?;
+    let text = format!(in rt.alloc(); "stopped 0 NoFile {longest}.table;")?;
+    check(&rt, line.as_str(), &[], &[], text.as_str(), 3)?;
+    let line = format!(in rt.alloc(); "clear {longest}1 same x")?;
+    check(&rt, line.as_str(), &[], &[], "stopped 0 Words;", 2)
 }
 
 /// Runs a program of two instructions and so many blank lines before them.
@@ -244,20 +237,10 @@ fn run_long<R: Abort + AllocGlobal>(rt: &R, blank: usize) -> Result<u8, Fail> {
     let alloc = rt.alloc();
     let mut text = vec![in alloc; b'\n'; blank]?;
     text.extend_from_slice(b"input x\noutput x\n")?;
-    let mut files = files(alloc)?;
-    let name = Name::read(alloc, b"many")?.ok_or("no name")?;
-    files.push((
-        FileName {
-            name,
-            kind: FileKind::Prog,
-        },
-        text,
-    ))?;
-    assert!(rt; are_distinct(files.as_slice()));
-    let mut shelf = MemShelf::new(files, Vec::new(alloc));
-    let mut sink = MemSink::new(alloc, Vec::new(alloc));
-    let words = words_of(alloc, "clear a many x")?;
-    Ok(number(&session(alloc, &words, &mut shelf, &mut sink)))
+    let mut files = files(alloc, file_list())?;
+    files.push((file_name(alloc, "many.prog")?, text))?;
+    let (_, ended) = run(rt, "clear a many x", files, &[], &[])?;
+    Ok(number(&ended))
 }
 
 #[test]
