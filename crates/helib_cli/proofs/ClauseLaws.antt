@@ -1,0 +1,41 @@
+use Rattle.std.proofs.Common.{◌≡◌, ℕ, ◌-◌, ◌≤◌, Bool, true, false, List, [], ◌∷◌, ◌++◌, length, take, Option, Some, Result, Ok, Err, append_assoc, refl, sym, ap, ◌∙◌, arith}
+use Rattle.std.proofs.lemmas.List.{take_all, take_at}
+use Rattle.shelf_core.specs.Outcomes.{PutsFront}
+use Rattle.helib_cli.specs.declared.cause.Cause.{Cause}
+use Rattle.helib_cli.specs.declared.cause.Cause.TheVariants.{Words, NoFile, ShelfFault, SinkFault, Memory, NotBuilt}
+use Rattle.helib_cli.specs.Arrays.{Array}
+use Rattle.helib_cli.specs.Clauses.{is_sink_fault, GoesOn, IsOfReading, IsOneFault}
+use Rattle.helib_cli.specs.declared.command.Command.{Command}
+use Rattle.helib_cli.specs.declared.effect.Effect.{Effect}
+use Rattle.helib_cli.specs.Commands.{command_of}
+use Rattle.helib_cli.specs.Machine.{◌>>=◌, command_on, line_on}
+use Rattle.shelf_core.specs.Files.{File}
+
+-- a cause of reading is no fault of the sink
+pub cause_facts : (cause : Cause) → IsOfReading cause → (is_sink_fault cause ≡ false) × IsOneFault cause
+cause_facts Words is = (refl, tt)
+cause_facts (NoFile file) is = (refl, tt)
+cause_facts (ShelfFault faults) is = (refl, is)
+cause_facts (SinkFault faults) is = absurd is
+cause_facts Memory is = (refl, tt)
+cause_facts (NotBuilt file) is = (refl, tt)
+
+-- bytes go on where more are added, or none
+pub goes_on : (old new piece : List ℕ) → new ≡ old ++ piece → GoesOn old new
+goes_on old new piece added = rw added (take_at old piece (length old) refl)
+
+pub goes_on_front : (old new piece : List ℕ) → PutsFront piece old new → GoesOn old new
+goes_on_front old new piece added = goes_on old new (take (length new - length old) piece) added
+
+pub stays : (old new : List ℕ) → new ≡ old → GoesOn old new
+stays old new same = rw same (take_all (length old) old (omega arith))
+
+-- these arrays, and then those that are found
+abbrev pub after : List Array → Result (List Array) Cause → Result (List Array) Cause
+after front found = found >>= λ rest. Ok (front ++ rest)
+
+-- what a line asks for, of its command
+pub line_is : (words : List (List ℕ)) (command : Command) (files : List File) (effect : Effect) → command_of words ≡ Some command
+    → command_on command files ≡ Ok effect → line_on words files ≡ Ok effect
+unfolding line_on
+line_is words command files effect read on = rw read on

@@ -1,0 +1,12 @@
+use Rattle.std.proofs.Common.{◌≡◌, drop, length, IsTrue}
+use Rattle.helib_cli.specs.Machine.{arrays_on}
+use Rattle.helib_cli.proofs.ClauseLaws.{after}
+use Rattle.helib_cli.proofs.reading.arrays.Given as goal
+
+abbrev pub invariant-loop-name : goal.invariant-loop-name
+invariant-loop-name g l =
+    (g.S.Shelf.tells l.shelf ≡ g.S.Shelf.tells l.fn.shelf)
+    × (g.S.Shelf.files l.shelf ≡ g.S.Shelf.files l.fn.shelf)
+    × (g.S.Shelf.faults l.shelf ≡ g.S.Shelf.faults l.fn.shelf)
+    × (length l.arrays.items ≡ l.name-index)
+    × (IsTrue (g.S.Shelf.tells l.fn.shelf) → after l.arrays.items (arrays_on (drop l.name-index l.names) (g.S.Shelf.files l.fn.shelf)) ≡ arrays_on l.names (g.S.Shelf.files l.fn.shelf))

@@ -1,0 +1,51 @@
+//! How a session ends, and why it stops.
+use line_text::FileName;
+use std::alloc::{AllocError, AllocFailed};
+
+/// Why a line stops.
+#[derive(Debug, Drop)]
+pub enum Cause {
+    /// The words are in no command's grammar.
+    Words,
+    /// The shelf has no file of this name.
+    NoFile { file: FileName },
+    /// The shelf failed, in this many answers of the line: 1.
+    ShelfFault { faults: u32 },
+    /// The sink failed, in this many answers of the line: 1.
+    SinkFault { faults: u32 },
+    /// There was not memory enough.
+    Memory,
+    /// The file is not of the one form that is read.
+    NotBuilt { file: FileName },
+}
+
+impl From<AllocError> for Cause {
+    ghost use Rattle.std.specs.Prelude.{◌≡◌};
+    ghost use Rattle.helib_cli.specs.declared.cause.Cause.TheVariants.{Memory};
+
+    ghost from_gives = { λ _ cause. cause ≡ Memory };
+
+    fn from(_error: AllocError) -> Cause {
+        Cause::Memory
+    }
+}
+
+impl<T: Drop> From<AllocFailed<T>> for Cause {
+    ghost use Rattle.std.specs.Prelude.{◌≡◌};
+    ghost use Rattle.helib_cli.specs.declared.cause.Cause.TheVariants.{Memory};
+
+    ghost from_gives = { λ _ cause. cause ≡ Memory };
+
+    fn from(_error: AllocFailed<T>) -> Cause {
+        Cause::Memory
+    }
+}
+
+/// How a session ends.
+#[derive(Debug, Drop)]
+pub enum Status {
+    /// Each line has done what it asks for.
+    Done,
+    /// This line did not: 0 for the program's own words.
+    Stopped { line: u32, cause: Cause },
+}

@@ -1,0 +1,70 @@
+//! What the words of a line ask for.
+ghost use Rattle.std.specs.Prelude.{◌≡◌, map, IfOk, string_bytes};
+ghost use Rattle.helib_cli.specs.Commands.{command_of, clear_of, names_of};
+
+use crate::names::Names;
+use line_text::Name;
+use std::alloc::{AllocError, Global};
+
+/// What a line asks for.
+#[derive(Drop)]
+pub enum Command {
+    /// Runs a program on arrays, under a table, and prints the array of its output.
+    Clear {
+        table: Name,
+        program: Name,
+        inputs: Names,
+    },
+}
+
+/// The command that the words ask for, if they are in a command's grammar.
+#[tactic(auto, unfolding(crate::specs::Commands::command_of))]
+pub fn command_of(alloc: Global, words: &[String]) -> Result<Option<Command>, AllocError>
+    ensures { IfOk result (λ command. command ≡ command_of (map string_bytes words.now)) }
+{
+    match words {
+        [word, rest @ ..] if word.as_str() == "clear" => clear_of(alloc, rest),
+        _ => Ok(None),
+    }
+}
+
+/// `clear T PROG X` with one or more X, from the word behind `clear` on.
+#[tactic(auto, unfolding(crate::specs::Commands::clear_of))]
+fn clear_of(alloc: Global, words: &[String]) -> Result<Option<Command>, AllocError>
+    ensures { IfOk result (λ command. command ≡ clear_of (map string_bytes words.now)) }
+{
+    let [table, program, inputs @ ..] = words else {
+        return Ok(None);
+    };
+    if inputs.is_empty() {
+        return Ok(None);
+    }
+    let Some(table) = Name::read(alloc, table.as_bytes())? else {
+        return Ok(None);
+    };
+    let Some(program) = Name::read(alloc, program.as_bytes())? else {
+        return Ok(None);
+    };
+    let Some(inputs) = names_of(alloc, inputs)? else {
+        return Ok(None);
+    };
+    Ok(Some(Command::Clear {
+        table,
+        program,
+        inputs,
+    }))
+}
+
+/// The names that the words spell, if each spells one.
+fn names_of(alloc: Global, words: &[String]) -> Result<Option<Names>, AllocError>
+    ensures { IfOk result (λ names. names ≡ names_of (map string_bytes words.now)) }
+{
+    let mut names = Names::new(alloc);
+    for word in words {
+        let Some(name) = Name::read(alloc, word.as_bytes())? else {
+            return Ok(None);
+        };
+        names.push(name)?;
+    }
+    Ok(Some(names))
+}
