@@ -18,11 +18,16 @@ use std::marker::Model;
 /// The operands of a step: the steps whose values it uses.
 #[derive(Clone, Copy, Debug, PartialEq, Eq)]
 pub struct Operands {
+    /// The first operand, if there is one.
     pub first: Option<u32>,
+    /// The second operand, if there is one.
     pub second: Option<u32>,
 }
 
 /// For each value the list of its uses.
+///
+/// Of the steps `x = input`, `a = mul x x`, `output a`, the list of `x`, value 0, is the nodes 2 and 3,
+/// both of step 1. The list of `a`, value 1, is node 4, of step 2.
 #[derive(Drop)]
 pub struct UseChain {
     // The nodes, and behind them a ring head for each value. From its head the nodes of a value's list
