@@ -15,6 +15,7 @@ pub mod Polynomials
 pub mod Evaluate
 pub mod Spread
 pub mod Lists
+pub mod Sums
 pub mod Dividing
 pub mod Quotients
 pub mod Values
@@ -30,3 +31,4 @@ pub mod Balanced
 pub mod Chinese
 pub mod UnitList
 pub mod ChineseRows
+pub mod ResidueUnits
