@@ -1,11 +1,11 @@
 -- The coefficients of a linear map among held elements, from the law over the ring of held elements.
-use Rattle.std.specs.Prelude.{◌≡◌, ℕ, zero, suc, ◌<◌, Bool, IsTrue, refl}
+use Rattle.std.specs.Prelude.{◌≡◌, ℕ, zero, suc, Bool, refl}
 use Rattle.std.proofs.Common.{sym, ◌∙◌, ap, ap₂}
 use mathlib.Core.Path.{fun_ext}
 use Rattle.algebra.specs.Ring.{Ops, CommRing, HeldLaws}
-use Rattle.algebra.specs.Hom.{Hom, Preserves}
+use Rattle.algebra.specs.Hom.{Hom}
 use Rattle.algebra.specs.Range.{total, adds}
-use Rattle.algebra.proofs.Held.{Held, same_held, held_ops, held_ring}
+use Rattle.algebra.proofs.Held.{Held, same_held, held_ring}
 use Rattle.algebra.proofs.Homs.{keeps_adds}
 use Rattle.algebra.proofs.HeldLists.{held_preserves}
 use Rattle.cyclotomic.specs.Trace.{repeated, trace}
