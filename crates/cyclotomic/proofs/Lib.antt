@@ -19,3 +19,4 @@ pub mod PhiLaws
 pub mod PhiValues
 pub mod HeldRoots
 pub mod WorkedValues
+pub mod HeldDual

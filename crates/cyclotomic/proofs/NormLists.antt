@@ -89,16 +89,20 @@ norm_from k a B e h = (
     lifted : alike k (as_poly (fold (suc k) l)) (as_poly (multiple (pos h.N) a))
     lifted = Alike_trans whole_polys (phi_poly (suc k)) (as_poly (fold (suc k) l)) (as_poly l) (as_poly (multiple (pos h.N) a)) (Alike_sym whole_polys (phi_poly (suc k)) (as_poly l) (as_poly (fold (suc k) l)) (fold_alike k l)) (Alike_trans whole_polys (phi_poly (suc k)) (as_poly l) own (as_poly (multiple (pos h.N) a)) (Alike_of_path whole_polys (phi_poly (suc k)) (as_poly l) own (same whole_numbers coefficients)) (subst (alike k own) (sym (multiple_is h.N a)) h.lifts))
 
+-- what has a bound is an element
+pub norm_element : (m : ℕ) (a : List ℤ) (B : ℕ) → NormAtMost m a B → IsElement m a
+norm_element m a B (n, l, h) = sym (length-map a (whole_ring.mul (pos n))) ∙ sym (ap length h.lifts) ∙ fold_element m l
+
 sum_element : (m : ℕ) (a b : List ℤ) → IsElement m a → IsElement m b → IsElement m ((R m).add a b)
 sum_element m a b e f = omega (arith, length-plus whole_numbers a b)
 
 pub sum_bounded : SumIsBounded
-sum_bounded zero a b B C p e f h l = absurd (omega arith)
-sum_bounded (suc k) a b B C p e f h l = norm_from k ((R (suc k)).add a b) (B + C) (sum_element (suc k) a b e f) (subst (λ z. Bounds k z (B + C)) (sym (as_poly-plus a b)) (NormLe-add k (phi_poly (suc k)) (phi_divides k) (as_poly a) (as_poly b) B C (norm_to k a B h) (norm_to k b C l)))
+sum_bounded zero a b B C p h l = absurd (omega arith)
+sum_bounded (suc k) a b B C p h l = norm_from k ((R (suc k)).add a b) (B + C) (sum_element (suc k) a b (norm_element (suc k) a B h) (norm_element (suc k) b C l)) (subst (λ z. Bounds k z (B + C)) (sym (as_poly-plus a b)) (NormLe-add k (phi_poly (suc k)) (phi_divides k) (as_poly a) (as_poly b) B C (norm_to k a B h) (norm_to k b C l)))
 
 pub product_bounded : ProductIsBounded
-product_bounded zero a b B C p e f h l = absurd (omega arith)
-product_bounded (suc k) a b B C p e f h l = norm_from k ((R (suc k)).mul a b) (B * C) (fold_element (suc k) (Rattle.algebra.specs.Poly.times whole_numbers a b)) (NormLe_alike k (phi_poly (suc k)) (phi_divides k) (whole_polys.mul (as_poly a) (as_poly b)) (as_poly ((R (suc k)).mul a b)) (B * C) (product_alike k a b) (NormLe-mul k (phi_poly (suc k)) (phi_divides k) (as_poly a) (as_poly b) B C (norm_to k a B h) (norm_to k b C l)))
+product_bounded zero a b B C p h l = absurd (omega arith)
+product_bounded (suc k) a b B C p h l = norm_from k ((R (suc k)).mul a b) (B * C) (fold_element (suc k) (Rattle.algebra.specs.Poly.times whole_numbers a b)) (NormLe_alike k (phi_poly (suc k)) (phi_divides k) (whole_polys.mul (as_poly a) (as_poly b)) (as_poly ((R (suc k)).mul a b)) (B * C) (product_alike k a b) (NormLe-mul k (phi_poly (suc k)) (phi_divides k) (as_poly a) (as_poly b) B C (norm_to k a B h) (norm_to k b C l)))
 
 -- a list bounds its own polynomial
 own_bounds : (k : ℕ) (f : List ℤ) → Bounds k (as_poly f) (one_norm f)
@@ -113,8 +117,8 @@ own_bounded zero a p e = absurd (omega arith)
 own_bounded (suc k) a p e = norm_from k a (one_norm a) e (own_bounds k a)
 
 pub multiple_bounded : MultipleIsBounded
-multiple_bounded zero c a B p e h = absurd (omega arith)
-multiple_bounded (suc k) c a B p e h = norm_from k (multiple c a) (nat_abs c * B) (length-map a (whole_ring.mul c) ∙ e) (subst (λ z. Bounds k z (nat_abs c * B)) (sym (as_poly-scaled c a)) (NormLe-mul k (phi_poly (suc k)) (phi_divides k) (constant whole_ring c) (as_poly a) (nat_abs c) B factor (norm_to k a B h)))
+multiple_bounded zero c a B p h = absurd (omega arith)
+multiple_bounded (suc k) c a B p h = norm_from k (multiple c a) (nat_abs c * B) (length-map a (whole_ring.mul c) ∙ norm_element (suc k) a B h) (subst (λ z. Bounds k z (nat_abs c * B)) (sym (as_poly-scaled c a)) (NormLe-mul k (phi_poly (suc k)) (phi_divides k) (constant whole_ring c) (as_poly a) (nat_abs c) B factor (norm_to k a B h)))
   where
     factor : Bounds k (constant whole_ring c) (nat_abs c)
     factor = subst (Bounds k (constant whole_ring c)) (zero_add (nat_abs c)) (NormLe_own k (phi_poly (suc k)) (phi_divides k) 1 (constant whole_ring c).0 (Below-const whole_ring c))
@@ -123,8 +127,8 @@ multiple_bounded (suc k) c a B p e h = norm_from k (multiple c a) (nat_abs c * B
         zero_add z = omega arith
 
 pub substitution_bounded : SubstitutionIsBounded
-substitution_bounded zero j a B p q u e h = absurd (omega arith)
-substitution_bounded (suc k) j a B p q u e h = norm_from k (substituted (suc k) j a) B (fold_element (suc k) (Rattle.algebra.specs.Poly.at_power whole_numbers j a)) (NormLe_alike k (phi_poly (suc k)) (phi_divides k) ((over.at_power whole_ring j q).map (as_poly a)) (as_poly (substituted (suc k) j a)) B (substituted_alike k j q a) (NormLe_image k (phi_poly (suc k)) (phi_divides k) j q (phi_divides_image k j q (inverse_of_unit (suc k) j p q u)) (as_poly a) B (norm_to k a B h)))
+substitution_bounded zero j a B p q u h = absurd (omega arith)
+substitution_bounded (suc k) j a B p q u h = norm_from k (substituted (suc k) j a) B (fold_element (suc k) (Rattle.algebra.specs.Poly.at_power whole_numbers j a)) (NormLe_alike k (phi_poly (suc k)) (phi_divides k) ((over.at_power whole_ring j q).map (as_poly a)) (as_poly (substituted (suc k) j a)) B (substituted_alike k j q a) (NormLe_image k (phi_poly (suc k)) (phi_divides k) j q (phi_divides_image k j q (inverse_of_unit (suc k) j p q u)) (as_poly a) B (norm_to k a B h)))
 
 -- B divided by T and rounded up is at least B / T
 round_up : (B T : ℕ) → 0 < T → B ≤ T * div_ceil B T
@@ -135,8 +139,8 @@ round_up B T p = by (B / T) (B % T) (div-add-mod' B T) (mod-lt B p)
     by q (suc r) e l = omega (arith, ap (λ z. T * z) (let f : q + min 1 (suc r) ≡ q + 1 = omega arith in f))
 
 pub quotient_bounded : QuotientIsBounded
-quotient_bounded zero T a b B p q e s h = absurd (omega arith)
-quotient_bounded (suc k) T a b B p q e s h = norm_from k a (div_ceil B T) e (NormLe-divide k (phi_poly (suc k)) (phi_divides k) (as_poly a) (as_poly b) T B (div_ceil B T) q (Alike_of_path whole_polys (phi_poly (suc k)) (whole_polys.mul (number whole_polys.ops T) (as_poly a)) (as_poly b) (sym (multiple_is T a) ∙ ap as_poly s)) (round_up B T q) (norm_to k b B h))
+quotient_bounded zero T a b B p q s h = absurd (omega arith)
+quotient_bounded (suc k) T a b B p q s h = norm_from k a (div_ceil B T) (sym (length-map a (whole_ring.mul (pos T))) ∙ ap length s ∙ norm_element (suc k) b B h) (NormLe-divide k (phi_poly (suc k)) (phi_divides k) (as_poly a) (as_poly b) T B (div_ceil B T) q (Alike_of_path whole_polys (phi_poly (suc k)) (whole_polys.mul (number whole_polys.ops T) (as_poly a)) (as_poly b) (sym (multiple_is T a) ∙ ap as_poly s)) (round_up B T q) (norm_to k b B h))
 
 pub bounds_grow : BoundsGrow
 bounds_grow m a B C l (n, L, h) = (n, L, record { positive = h.positive; long = h.long; lifts = h.lifts; small = le_trans h.small (mul-le-mul_left n l) })
@@ -160,8 +164,8 @@ height_le m t i l = le_trans (inner (cases_lt i (degree m))) (greatest_le m (λ 
     inner (inr s) = le_trans (le_of_eq (ap nat_abs (Below-coeff whole_numbers (fold m (monomial whole_numbers t)) i (omega (arith, fold_element m (monomial whole_numbers t)))))) (omega arith)
 
 pub coefficient_bounded : CoefficientIsBounded
-coefficient_bounded zero a B i p e h = absurd (omega arith)
-coefficient_bounded (suc k) a B i p e h = NormLe-coefficient k (degree (suc k)) (phi_poly (suc k)) (phi_divides k) (phi_series k) (height (suc k)) rest (λ t l. short t) is_rest (λ t j l. height_le (suc k) t j l) (coeff whole_numbers a) below B (NormLe_alike k (phi_poly (suc k)) (phi_divides k) (as_poly a) (poly whole_numbers (degree (suc k)) (coeff whole_numbers a) below) B (Alike_of_path whole_polys (phi_poly (suc k)) (as_poly a) (poly whole_numbers (degree (suc k)) (coeff whole_numbers a) below) (same whole_numbers refl)) (norm_to k a B h)) i
+coefficient_bounded zero a B i p h = absurd (omega arith)
+coefficient_bounded (suc k) a B i p h = NormLe-coefficient k (degree (suc k)) (phi_poly (suc k)) (phi_divides k) (phi_series k) (height (suc k)) rest (λ t l. short t) is_rest (λ t j l. height_le (suc k) t j l) (coeff whole_numbers a) below B (NormLe_alike k (phi_poly (suc k)) (phi_divides k) (as_poly a) (poly whole_numbers (degree (suc k)) (coeff whole_numbers a) below) B (Alike_of_path whole_polys (phi_poly (suc k)) (as_poly a) (poly whole_numbers (degree (suc k)) (coeff whole_numbers a) below) (same whole_numbers refl)) (norm_to k a B h)) i
   where
     rest : ℕ → Whole
     rest t = coeff whole_numbers (fold (suc k) (monomial whole_numbers t))
@@ -170,7 +174,7 @@ coefficient_bounded (suc k) a B i p e h = NormLe-coefficient k (degree (suc k)) 
     short t j l = Below-coeff whole_numbers (fold (suc k) (monomial whole_numbers t)) j (omega (arith, fold_element (suc k) (monomial whole_numbers t)))
 
     below : Below whole_numbers (degree (suc k)) (coeff whole_numbers a)
-    below j l = Below-coeff whole_numbers a j (omega arith)
+    below j l = Below-coeff whole_numbers a j (omega (arith, norm_element (suc k) a B h))
 
     is_rest : (t : ℕ) (l : t < suc k) → Alike whole_polys (phi_poly (suc k)) (power whole_polys.ops indeterminate t) (poly whole_numbers (degree (suc k)) (rest t) (short t))
     is_rest t l = subst (λ z. alike k z (poly whole_numbers (degree (suc k)) (rest t) (short t))) (as_poly-monomial t) (subst (alike k (as_poly (monomial whole_numbers t))) (same whole_numbers refl) (fold_alike k (monomial whole_numbers t)))
@@ -186,8 +190,8 @@ half_balanced q f a l s = balanced_only q (omega arith) f a (record { same = s; 
     low a l = record { lt = lt_in (neg_ℤ (pos q)) (pos 2 *ℤ a) (omega (arith, product_is (pos 2) a, abs_up a, neg_is (pos q))) }
 
 pub small_balanced : SmallIsBalanced
-small_balanced m q a f B p e s h l same = same_list whole_numbers a (map (balanced q) f) (e ∙ sym s ∙ sym (length-map f (balanced q))) (λ i. at i (cases_lt i (length f)))
+small_balanced m q a f B p s h l same = same_list whole_numbers a (map (balanced q) f) (norm_element m a B h ∙ sym s ∙ sym (length-map f (balanced q))) (λ i. at i (cases_lt i (length f)))
   where
     at : (i : ℕ) → (i < length f) ⊎ (length f ≤ i) → coeff whole_numbers a i ≡ coeff whole_numbers (map (balanced q) f) i
-    at i (inl k) = half_balanced q (coeff whole_numbers f i) (coeff whole_numbers a i) (omega (arith, coefficient_bounded m a B i p e h)) (same i) ∙ sym (get_or-map (balanced q) f i (pos 0) (pos 0) k)
-    at i (inr k) = Below-coeff whole_numbers a i (omega arith) ∙ sym (Below-coeff whole_numbers (map (balanced q) f) i (omega (arith, length-map f (balanced q))))
+    at i (inl k) = half_balanced q (coeff whole_numbers f i) (coeff whole_numbers a i) (omega (arith, coefficient_bounded m a B i p h)) (same i) ∙ sym (get_or-map (balanced q) f i (pos 0) (pos 0) k)
+    at i (inr k) = Below-coeff whole_numbers a i (omega (arith, norm_element m a B h)) ∙ sym (Below-coeff whole_numbers (map (balanced q) f) i (omega (arith, length-map f (balanced q))))

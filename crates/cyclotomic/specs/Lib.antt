@@ -6,3 +6,4 @@ pub mod Norm
 pub mod NormLaws
 pub mod CyclotomicLaws
 pub mod RootLaws
+pub mod LinearLaws

@@ -1,6 +1,5 @@
 -- The norm of the elements of R: "B bounds a".
-use Rattle.std.specs.Prelude.{◌≡◌, ℕ, ◌*◌, ◌<◌, ◌≤◌, max, List, [], ◌∷◌, length, ℤ, pos, nat_abs}
-use Rattle.std.specs.Prelude.{◌+◌}
+use Rattle.std.specs.Prelude.{◌≡◌, ℕ, ◌+◌, ◌*◌, ◌<◌, ◌≤◌, max, List, [], ◌∷◌, length, ℤ, pos, nat_abs}
 use Rattle.algebra.specs.Ring.{whole_numbers}
 use Rattle.algebra.specs.Range.{Monoid, total}
 use Rattle.algebra.specs.Poly.{coeff, monomial}

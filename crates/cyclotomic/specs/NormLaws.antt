@@ -10,27 +10,27 @@ use Rattle.cyclotomic.specs.Norm.{one_norm, NormAtMost, height}
 
 -- the sum of a bound of a and a bound of b bounds a + b
 abbrev pub SumIsBounded : Type 0
-SumIsBounded = (m : ℕ) (a b : List ℤ) (B C : ℕ) → 0 < m → IsElement m a → IsElement m b → NormAtMost m a B → NormAtMost m b C → NormAtMost m ((R m).add a b) (B + C)
+SumIsBounded = (m : ℕ) (a b : List ℤ) (B C : ℕ) → 0 < m → NormAtMost m a B → NormAtMost m b C → NormAtMost m ((R m).add a b) (B + C)
 
 -- their product bounds a * b
 abbrev pub ProductIsBounded : Type 0
-ProductIsBounded = (m : ℕ) (a b : List ℤ) (B C : ℕ) → 0 < m → IsElement m a → IsElement m b → NormAtMost m a B → NormAtMost m b C → NormAtMost m ((R m).mul a b) (B * C)
+ProductIsBounded = (m : ℕ) (a b : List ℤ) (B C : ℕ) → 0 < m → NormAtMost m a B → NormAtMost m b C → NormAtMost m ((R m).mul a b) (B * C)
 
 -- each bound of a, times the absolute value of h, bounds h * a
 abbrev pub MultipleIsBounded : Type 0
-MultipleIsBounded = (m : ℕ) (h : ℤ) (a : List ℤ) (B : ℕ) → 0 < m → IsElement m a → NormAtMost m a B → NormAtMost m (multiple h a) (nat_abs h * B)
+MultipleIsBounded = (m : ℕ) (h : ℤ) (a : List ℤ) (B : ℕ) → 0 < m → NormAtMost m a B → NormAtMost m (multiple h a) (nat_abs h * B)
 
 -- a(X^k) keeps each bound of a, for a unit k
 abbrev pub SubstitutionIsBounded : Type 0
-SubstitutionIsBounded = (m k : ℕ) (a : List ℤ) (B : ℕ) → 0 < m → 0 < k → UnitModulo m k → IsElement m a → NormAtMost m a B → NormAtMost m (substituted m k a) B
+SubstitutionIsBounded = (m k : ℕ) (a : List ℤ) (B : ℕ) → 0 < m → 0 < k → UnitModulo m k → NormAtMost m a B → NormAtMost m (substituted m k a) B
 
 -- where T * a = b, each bound of b divided by T and rounded up bounds a
 abbrev pub QuotientIsBounded : Type 0
-QuotientIsBounded = (m T : ℕ) (a b : List ℤ) (B : ℕ) → 0 < m → 0 < T → IsElement m a → multiple (pos T) a ≡ b → NormAtMost m b B → NormAtMost m a (div_ceil B T)
+QuotientIsBounded = (m T : ℕ) (a b : List ℤ) (B : ℕ) → 0 < m → 0 < T → multiple (pos T) a ≡ b → NormAtMost m b B → NormAtMost m a (div_ceil B T)
 
 -- each coefficient of a is at most the height times each bound of a
 abbrev pub CoefficientIsBounded : Type 0
-CoefficientIsBounded = (m : ℕ) (a : List ℤ) (B i : ℕ) → 0 < m → IsElement m a → NormAtMost m a B → nat_abs (coeff whole_numbers a i) ≤ height m * B
+CoefficientIsBounded = (m : ℕ) (a : List ℤ) (B i : ℕ) → 0 < m → NormAtMost m a B → nat_abs (coeff whole_numbers a i) ≤ height m * B
 
 -- the sum of the absolute coefficients bounds the remainder by Phi_m of any polynomial
 abbrev pub RemainderIsBounded : Type 0
@@ -43,4 +43,4 @@ BoundsGrow = (m : ℕ) (a : List ℤ) (B C : ℕ) → B ≤ C → NormAtMost m a
 -- an element whose bound times the height is below half of q is the balanced residue of each polynomial that is equal to it
 -- up to a multiple of q, and so the only such element
 abbrev pub SmallIsBalanced : Type 0
-SmallIsBalanced = (m q : ℕ) (a f : List ℤ) (B : ℕ) → 0 < m → IsElement m a → IsElement m f → NormAtMost m a B → 2 * (height m * B) < q → ((i : ℕ) → SameModulo q (coeff whole_numbers f i) (coeff whole_numbers a i)) → a ≡ map (balanced q) f
+SmallIsBalanced = (m q : ℕ) (a f : List ℤ) (B : ℕ) → 0 < m → IsElement m f → NormAtMost m a B → 2 * (height m * B) < q → ((i : ℕ) → SameModulo q (coeff whole_numbers f i) (coeff whole_numbers a i)) → a ≡ map (balanced q) f

@@ -3,6 +3,7 @@
 //! Nothing here runs: each function is a law, whose statement stands in `specs/` and whose proof stands in `proofs/`.
 #![tactic(auto)]
 
+pub mod linear;
 pub mod norm;
 pub mod polynomials;
 pub mod ring;
