@@ -44,7 +44,7 @@ pairs_first R q qs h k d l = h 0 (suc k) d (omega arith) (omega arith)
 pub pairs_rest : (R : ℕ → ℕ → Type 0) (q : ℕ) (qs : List ℕ) → AllPairs R (q ∷ qs) → AllPairs R qs
 pairs_rest R q qs h i j d l m = h (suc i) (suc j) d (omega arith) (omega arith)
 
-all_rest : (P : ℕ → Type 0) (q : ℕ) (qs : List ℕ) → All P (q ∷ qs) → All P qs
+pub all_rest : (P : ℕ → Type 0) (q : ℕ) (qs : List ℕ) → All P (q ∷ qs) → All P qs
 all_rest P q qs h k d l = h (suc k) d (omega arith)
 
 -- the product of moduli that each meet q in 1 meets q in 1

@@ -12,6 +12,15 @@ use Rattle.algebra.proofs.Degrees as by
 use Rattle.algebra.proofs.Lists.{same_list, Below-coeff, length-plus, coeff-cons, coeff-plus, coeff-scaled, coeff-times}
 
 module _ {C : Type 0} (o : Ops C) where
+  -- one step of the long division
+  pub remainder_cons : (g : List C) (a : C) (f : List C) → remainder o g (a ∷ f) ≡ reduced o g (a ∷ remainder o g f)
+  unfolding remainder
+  remainder_cons g a f = refl
+
+  pub quotient_digits_cons : (g : List C) (a : C) (f : List C) → quotient_digits o g (a ∷ f) ≡ top o g (a ∷ remainder o g f) ∷ quotient_digits o g f
+  unfolding quotient_digits
+  quotient_digits_cons g a f = refl
+
   pub length-reduced : (g w : List C) → degree_of o g ≤ length w → length (reduced o g w) ≡ degree_of o g
   length-reduced g w l = length-take (degree_of o g) (plus o w (scaled o (o.neg (top o g w)) g)) ∙ least (degree_of o g) (length w) (length (scaled o (o.neg (top o g w)) g)) (length (plus o w (scaled o (o.neg (top o g w)) g))) l (length-plus o w (scaled o (o.neg (top o g w)) g))
     where
@@ -59,6 +68,10 @@ module _ (R : CommRing) where
 
     pub monic_series : Monic o (degree_of o g) (coeff o g)
     monic_series = record { below = λ i l. Below-coeff o g i (omega (arith, M.filled)); top = M.top }
+
+    nothing : (r : List C) → r ≡ plus o (times o [] g) r
+    unfolding times
+    nothing r = refl
 
     -- the step of the long division, coefficient by coefficient
     coeff-reduced : (a : C) (r : List C) → length r ≡ d → Below o d (by.reduced R d (coeff o g) (cons a (coeff o r))) → (i : ℕ) → by.reduced R d (coeff o g) (cons a (coeff o r)) i ≡ coeff o (reduced o g (a ∷ r)) i
@@ -135,3 +148,14 @@ module _ (R : CommRing) where
 
         quotients : coeff o q ≡ coeff o (quotient_by o g f)
         quotients = quotient_only R d n (coeff o g) (coeff o f) (coeff o q) (coeff o r) (coeff o (quotient_by o g f)) (coeff o (remainder o g f)) monic_series (λ i l. Below-coeff o q i (omega (arith, D.quotient_long))) (λ i l. Below-coeff o (quotient_by o g f) i (omega (arith, length-quotient_by o g f))) (record { small = λ i l. Below-coeff o r i (omega (arith, D.remainder_long)); sum_is = sums }) (subst (λ h. IsDivision o d (coeff o g) (coeff o f) h (coeff o (remainder o g f))) (sym (fun_ext (quotient-digits f))) (divides f))
+
+    -- a list of at most the degree's length is its own remainder, but for zeros at the end
+    pub remainder_short : (f : List C) → length f ≤ degree_of o g → SameCoeffs o (remainder o g f) f
+    remainder_short f l i = at (quotient_by o g f) (nil (quotient_by o g f) (omega (arith, length-quotient_by o g f))) i ∙ (divided f).sum_is i
+      where
+        nil : (q : List C) → length q ≡ 0 → q ≡ []
+        nil [] e = refl
+        nil (a ∷ q) e = absurd (omega arith)
+
+        at : (q : List C) → q ≡ [] → (i : ℕ) → coeff o (remainder o g f) i ≡ coeff o (plus o (times o q g) (remainder o g f)) i
+        at q e i = ap (λ z. coeff o z i) (subst (λ z. remainder o g f ≡ plus o (times o z g) (remainder o g f)) (sym e) (nothing (remainder o g f)))

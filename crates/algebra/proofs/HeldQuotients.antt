@@ -1,18 +1,19 @@
 -- Products, division and quotient rings of lists of held elements.
-use Rattle.std.specs.Prelude.{◌≡◌, ℕ, ◌-◌, Bool, eqb, IsTrue, List, length}
+use Rattle.std.specs.Prelude.{◌≡◌, ℕ, ◌-◌, Bool, eqb, IsTrue, List, [], ◌∷◌, length}
 use Rattle.std.proofs.Common.{arith, sym, ◌∙◌, ap, ap₂, eq-eqb, eqb-true}
 use Rattle.std.proofs.lemmas.Bool.{and_parts, and_from}
 use Rattle.std.proofs.lemmas.List.{length-map}
 use mathlib.Core.Path.{fun_ext}
 use Rattle.algebra.specs.Ring.{Ops, CommRing, HeldLaws}
+use Rattle.algebra.specs.Hom.{Hom, Preserves}
 use Rattle.algebra.specs.Series.{product}
-use Rattle.algebra.specs.Poly.{all_held, row_held, coeff, plus, times, degree_of, IsMonic, remainder, quotient_by, IsDivided, modulo}
+use Rattle.algebra.specs.Poly.{all_held, row_held, coeff, plus, negated, scaled, times, reduced, degree_of, IsMonic, remainder, quotient_by, IsDivided, modulo}
 use Rattle.algebra.proofs.Held.{Held, same_held, held_ops, held_ring}
 use Rattle.algebra.proofs.Homs.{keeps_product}
 use Rattle.algebra.proofs.Lists.{coeff-plus, coeff-times}
-use Rattle.algebra.proofs.Maps.{map_coeff, map_plus, map_times, map_degree_of, map_remainder, map_quotient_by, map_modulo}
+use Rattle.algebra.proofs.Maps.{map_coeff, map_plus, map_negated, map_scaled, map_reduced, map_times, map_degree_of, map_remainder, map_quotient_by, map_modulo}
 use Rattle.algebra.proofs.Dividing.{length-remainder, length-quotient_by, divided, divided_only}
-use Rattle.algebra.proofs.Quotients.{quotient_laws}
+use Rattle.algebra.proofs.Quotients.{quotient_laws, product_step, number_zero, number-add, number-mul, number-neg}
 use Rattle.algebra.proofs.HeldLists.{laws_along, values, values_held, lifted, values-lifted, each_list, held_preserves}
 
 module _ {C : Type 0} {held : C → Bool} {o : Ops C} (L : HeldLaws held o) where
@@ -75,3 +76,31 @@ module _ {C : Type 0} {held : C → Bool} {o : Ops C} (L : HeldLaws held o) wher
         where
           parts : (b : List C) → IsTrue (row_held held (degree_of o (values held g)) b) → IsTrue (eqb (length b) (degree_of o (values held g))) × IsTrue (all_held held b)
           parts b h = and_parts (eqb (length b) (degree_of o (values held g))) (all_held held b) h
+
+  -- a product modulo g by Horner's rule: one coefficient of the first factor at a time, from the top
+  pub held_product_step : (g : List C) → IsTrue (all_held held g) → IsMonic o g → (a : C) (f h : List C) → IsTrue (held a) → IsTrue (all_held held f) → IsTrue (all_held held h) → length h ≡ degree_of o g → (modulo o g).mul (a ∷ f) h ≡ plus o (scaled o a h) (reduced o g (o.zero ∷ (modulo o g).mul f h))
+  held_product_step g hg M a f h ha hf hh e = each_list held (λ g. IsMonic o g → length h ≡ degree_of o g → (modulo o g).mul (a ∷ f) h ≡ plus o (scaled o a h) (reduced o g (o.zero ∷ (modulo o g).mul f h))) (λ g. each_list held (λ f. IsMonic o (values held g) → length h ≡ degree_of o (values held g) → (modulo o (values held g)).mul (a ∷ f) h ≡ plus o (scaled o a h) (reduced o (values held g) (o.zero ∷ (modulo o (values held g)).mul f h))) (λ f. each_list held (λ h. IsMonic o (values held g) → length h ≡ degree_of o (values held g) → (modulo o (values held g)).mul (a ∷ values held f) h ≡ plus o (scaled o a h) (reduced o (values held g) (o.zero ∷ (modulo o (values held g)).mul (values held f) h))) (of_values g f) h hh) f hf) g hg M e
+    where
+      of_values : (g f h : List (Held held)) → IsMonic o (values held g) → length (values held h) ≡ degree_of o (values held g) → (modulo o (values held g)).mul (a ∷ values held f) (values held h) ≡ plus o (scaled o a (values held h)) (reduced o (values held g) (o.zero ∷ (modulo o (values held g)).mul (values held f) (values held h)))
+      of_values g f h M e = sym ((map_modulo (held_preserves L) g).keeps_mul ((a, ha) ∷ f) h) ∙ ap (values held) (product_step H g (held_monic g M) (a, ha) f h (sym (length-map h (λ a. a.0)) ∙ e ∙ map_degree_of (held_preserves L) g)) ∙ map_plus (held_preserves L) (scaled (held_ops L) (a, ha) h) (reduced (held_ops L) g ((held_ops L).zero ∷ (modulo (held_ops L) g).mul f h)) ∙ ap₂ (plus o) (map_scaled (held_preserves L) (a, ha) h) (map_reduced (held_preserves L) g ((held_ops L).zero ∷ (modulo (held_ops L) g).mul f h) ∙ ap (λ z. reduced o (values held g) (o.zero ∷ z)) ((map_modulo (held_preserves L) g).keeps_mul f h))
+
+-- Constants of the quotient ring: numbers of a ring R, mapped to held elements.
+module _ {C : Type 0} {held : C → Bool} {o : Ops C} (L : HeldLaws held o) (R : CommRing) (f : R.Carrier → C) (K : Preserves R.ops o f) (into : (a : R.Carrier) → IsTrue (held (f a))) where
+  -- the map to the ring of held elements
+  abbrev pub held_hom : Hom R (held_ring L)
+  held_hom = record { map = λ a. (f a, into a); is = record { map_add = λ a b. same_held held (K.keeps_add a b); map_mul = λ a b. same_held held (K.keeps_mul a b); map_one = same_held held K.keeps_one } }
+
+  pub number_preserves : (g : List C) → IsTrue (all_held held g) → IsMonic o g → Preserves R.ops (modulo o g) (λ a. remainder o g (f a ∷ []))
+  number_preserves = each_list held (λ g. IsMonic o g → Preserves R.ops (modulo o g) (λ a. remainder o g (f a ∷ []))) of_values
+    where
+      is : (g : List (Held held)) (a : R.Carrier) → remainder o (values held g) (f a ∷ []) ≡ values held (remainder (held_ops L) g (held_hom.map a ∷ []))
+      is g a = sym (map_remainder (held_preserves L) g (held_hom.map a ∷ []))
+
+      of_values : (g : List (Held held)) → IsMonic o (values held g) → Preserves R.ops (modulo o (values held g)) (λ a. remainder o (values held g) (f a ∷ []))
+      of_values g M = record {
+        keeps_zero = is g R.zero ∙ ap (λ z. values held (remainder (held_ops L) g (z ∷ []))) (same_held held K.keeps_zero) ∙ ap (values held) (number_zero (held_ring L) g (held_monic L g M)) ∙ map_remainder (held_preserves L) g [];
+        keeps_one = ap (λ z. remainder o (values held g) (z ∷ [])) K.keeps_one;
+        keeps_add = λ a b. is g (R.add a b) ∙ ap (λ z. values held (remainder (held_ops L) g (z ∷ []))) (held_hom.map_add a b) ∙ ap (values held) (number-add (held_ring L) g (held_monic L g M) (held_hom.map a) (held_hom.map b)) ∙ map_plus (held_preserves L) (remainder (held_ops L) g (held_hom.map a ∷ [])) (remainder (held_ops L) g (held_hom.map b ∷ [])) ∙ ap₂ (plus o) (sym (is g a)) (sym (is g b));
+        keeps_mul = λ a b. is g (R.mul a b) ∙ ap (λ z. values held (remainder (held_ops L) g (z ∷ []))) (held_hom.map_mul a b) ∙ ap (values held) (number-mul (held_ring L) g (held_monic L g M) (held_hom.map a) (held_hom.map b)) ∙ (map_modulo (held_preserves L) g).keeps_mul (remainder (held_ops L) g (held_hom.map a ∷ [])) (remainder (held_ops L) g (held_hom.map b ∷ [])) ∙ ap₂ (modulo o (values held g)).mul (sym (is g a)) (sym (is g b));
+        keeps_neg = λ a. is g (R.neg a) ∙ ap (λ z. values held (remainder (held_ops L) g (z ∷ []))) (same_held held (K.keeps_neg a)) ∙ ap (values held) (number-neg (held_ring L) g (held_monic L g M) (held_hom.map a)) ∙ map_negated (held_preserves L) (remainder (held_ops L) g (held_hom.map a ∷ [])) ∙ ap (negated o) (sym (is g a));
+      }

@@ -1,9 +1,9 @@
 -- What maps of operations, and with them maps of rings, keep.
-use Rattle.std.specs.Prelude.{◌≡◌, ℕ, zero, suc, refl}
+use Rattle.std.specs.Prelude.{◌≡◌, ℕ, zero, suc, ◌/◌, ◌%◌, Bool, true, false, cond, eqb, refl}
 use Rattle.std.proofs.Common.{sym, ◌∙◌, ap, ap₂}
 use Rattle.algebra.specs.Ring.{Ops, CommRing}
 use Rattle.algebra.specs.Hom.{Hom, Preserves}
-use Rattle.algebra.specs.Series.{Series, product}
+use Rattle.algebra.specs.Series.{Series, product, spread}
 use Rattle.algebra.specs.Range.{total, adds, muls}
 use Rattle.algebra.specs.Power.{power, number, Divides, IsUnit, Meets, less}
 use Rattle.algebra.proofs.Basic.{add_cancel, add_neg, add_zero}
@@ -50,6 +50,13 @@ module _ {C D : Type 0} {o : Ops C} {p : Ops D} {h : C → D} (K : Preserves o p
   unfolding product
   keeps_product f g zero = K.keeps_mul (f zero) (g zero)
   keeps_product f g (suc n) = K.keeps_add (o.mul (f zero) (g (suc n))) (product o (λ i. f (suc i)) g n) ∙ ap₂ p.add (K.keeps_mul (f zero) (g (suc n))) (keeps_product (λ i. f (suc i)) g n)
+
+  pub keeps_spread : (k : ℕ) (f : Series C) (i : ℕ) → h (spread o k f i) ≡ spread p k (λ i. h (f i)) i
+  keeps_spread k f i = go (eqb (i % k) 0)
+    where
+      go : (b : Bool) → h (cond b (f (i / k)) o.zero) ≡ cond b (h (f (i / k))) p.zero
+      go true = refl
+      go false = K.keeps_zero
 
 module _ (R S : CommRing) (F : Hom R S) where
   pub map_zero : F.map R.zero ≡ S.zero

@@ -21,5 +21,12 @@ pub mod Values
 pub mod Maps
 pub mod HeldLists
 pub mod HeldQuotients
+pub mod HeldPowers
+pub mod HeldRemainders
+pub mod HeldValues
+pub mod Over
 pub mod WholeResidues
+pub mod Balanced
 pub mod Chinese
+pub mod UnitList
+pub mod ChineseRows

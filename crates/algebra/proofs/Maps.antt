@@ -63,7 +63,7 @@ module _ {C D : Type 0} {o : Ops C} {p : Ops D} {h : C → D} (K : Preserves o p
   pub map_top : (g w : List C) → h (top o g w) ≡ top p (map h g) (map h w)
   map_top g w = map_coeff w (degree_of o g) ∙ ap (coeff p (map h w)) (sym (map_degree_of g))
 
-  map_reduced : (g w : List C) → map h (reduced o g w) ≡ reduced p (map h g) (map h w)
+  pub map_reduced : (g w : List C) → map h (reduced o g w) ≡ reduced p (map h g) (map h w)
   map_reduced g w = sym (take-map h (degree_of o g) (plus o w (scaled o (o.neg (top o g w)) g))) ∙ ap₂ take (sym (map_degree_of g)) (map_plus w (scaled o (o.neg (top o g w)) g) ∙ ap (plus p (map h w)) (map_scaled (o.neg (top o g w)) g ∙ ap (λ z. scaled p z (map h g)) (K.keeps_neg (top o g w) ∙ ap p.neg (map_top g w))))
 
   pub map_remainder : (g f : List C) → map h (remainder o g f) ≡ remainder p (map h g) (map h f)

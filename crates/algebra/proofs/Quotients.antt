@@ -1,12 +1,13 @@
 -- The polynomials modulo a monic list g: lists of the degree's length are a ring, and the remainder is a map onto it.
-use Rattle.std.specs.Prelude.{◌≡◌, ℕ, ◌+◌ as ◌+ₙ◌, Bool, eqb, IsTrue, List, [], ◌∷◌, length, refl}
+use Rattle.std.specs.Prelude.{◌≡◌, ℕ, zero, suc, ◌+◌ as ◌+ₙ◌, Bool, eqb, IsTrue, List, [], ◌∷◌, length, refl}
 use Rattle.std.proofs.Common.{arith, sym, ◌∙◌, ap, ap₂, eq-eqb, eqb-true}
 use Rattle.std.proofs.lemmas.List.{length-map}
 use mathlib.Core.Path.{fun_ext}
 use Rattle.algebra.specs.Ring.{CommRing, HeldLaws}
 use Rattle.algebra.specs.Series.{Series, zeros, sum, product, negated as turned, scaled as multiple, Below}
-use Rattle.algebra.specs.Poly.{coeff, SameCoeffs, plus, negated, scaled, times, degree_of, IsMonic, remainder, quotient_digits, modulo}
-use Rattle.algebra.proofs.Basic.{mul_add}
+use Rattle.algebra.specs.Poly.{coeff, SameCoeffs, plus, negated, scaled, times, degree_of, IsMonic, reduced, remainder, quotient_digits, modulo}
+use Rattle.algebra.proofs.Basic.{mul_add, add_zero}
+use Rattle.algebra.proofs.Held.{held_ring, same_held}
 use Rattle.algebra.proofs.SeriesRing.{series_ring, product_comm, product_assoc, product-sum, product-scaled, product-const}
 use Rattle.algebra.proofs.Degrees.{Below-sum, Below-negated, Below-scaled, Below-more, Below-product, Below-zeros}
 use Rattle.algebra.proofs.Lists.{same_list, Below-coeff, length-plus, coeff-cons, coeff-plus, coeff-negated, coeff-scaled, coeff-times}
@@ -101,6 +102,11 @@ module _ (R : CommRing) (g : List R.Carrier) (M : IsMonic R.ops g) where
   pub remainder-product : (f h : List C) → remainder o g (times o f h) ≡ (modulo o g).mul (remainder o g f) (remainder o g h)
   remainder-product f h = sym (remainder-times f h) ∙ remainder_same (times o (rem f) h) (times o h (rem f)) (same-times_comm (rem f) h) ∙ sym (remainder-times h (rem f)) ∙ remainder_same (times o (rem h) (rem f)) (times o (rem f) (rem h)) (same-times_comm (rem h) (rem f))
 
+  one : (a b : C) → SameCoeffs o (a * b ∷ []) (times o (a ∷ []) (b ∷ []))
+  unfolding times
+  one a b zero = sym (add_zero R (a * b))
+  one a b (suc i) = refl
+
   none : (i : ℕ) → coeff o (rem []) i ≡ 𝟘
   unfolding remainder
   none i = coeff-none R (degree_of o g) i
@@ -109,10 +115,10 @@ module _ (R : CommRing) (g : List R.Carrier) (M : IsMonic R.ops g) where
   abbrev pub is_row : List C → Bool
   is_row f = eqb (length f) (degree_of o g)
 
-  row_long : (f : List C) → IsTrue (is_row f) → length f ≡ degree_of o g
+  pub row_long : (f : List C) → IsTrue (is_row f) → length f ≡ degree_of o g
   row_long f h = eqb-true (length f) (degree_of o g) h
 
-  long_row : (f : List C) → length f ≡ degree_of o g → IsTrue (is_row f)
+  pub long_row : (f : List C) → length f ≡ degree_of o g → IsTrue (is_row f)
   long_row f e = eq-eqb (length f) (degree_of o g) e
 
   pub quotient_laws : HeldLaws is_row (modulo o g)
@@ -140,3 +146,52 @@ module _ (R : CommRing) (g : List R.Carrier) (M : IsMonic R.ops g) where
 
       second : (f h : List C) → rem (times o f h) ≡ rem (times o f (rem h))
       second f h = remainder_same (times o f h) (times o h f) (same-times_comm f h) ∙ sym (remainder-times h f) ∙ remainder_same (times o (rem h) f) (times o f (rem h)) (same-times_comm (rem h) f)
+
+  -- the quotient ring, and the map onto it
+  abbrev pub quotient_ring : CommRing
+  quotient_ring = held_ring quotient_laws
+
+  abbrev pub reduce : List C → quotient_ring.Carrier
+  reduce f = (remainder o g f, long_row (remainder o g f) (length-remainder o g f))
+
+  pub reduce-plus : (f h : List C) → reduce (plus o f h) ≡ quotient_ring.add (reduce f) (reduce h)
+  reduce-plus f h = same_held is_row (remainder-plus f h)
+
+  pub reduce-times : (f h : List C) → reduce (times o f h) ≡ quotient_ring.mul (reduce f) (reduce h)
+  reduce-times f h = same_held is_row (remainder-product f h)
+
+  pub reduce-negated : (f : List C) → reduce (negated o f) ≡ quotient_ring.neg (reduce f)
+  reduce-negated f = same_held is_row (remainder-negated f)
+
+  -- each element is the remainder of itself
+  pub reduce_same : (a : quotient_ring.Carrier) → reduce a.0 ≡ a
+  reduce_same a = same_held is_row (remainder_small a.0 (row_long a.0 a.1))
+
+  -- a multiple of g is 0
+  pub remainder_multiple : (f : List C) → remainder o g (times o f g) ≡ remainder o g []
+  remainder_multiple f = sym (remainder_of R g M (times o f g) (rem []) (length f) (coeff o f) (Below-coeff o f) (length-remainder o g []) (λ i. ap (λ z. product o (coeff o f) (coeff o g) i + z) (none i) ∙ add_zero R (product o (coeff o f) (coeff o g) i) ∙ sym (coeff-times R f g i)))
+
+  -- the constants of the quotient ring
+  abbrev pub number : C → List C
+  number a = remainder o g (a ∷ [])
+
+  pub number-add : (a b : C) → number (a + b) ≡ plus o (number a) (number b)
+  number-add a b = remainder-plus (a ∷ []) (b ∷ [])
+
+  pub number-neg : (a : C) → number (neg a) ≡ negated o (number a)
+  number-neg a = remainder-negated (a ∷ [])
+
+  pub number-mul : (a b : C) → number (a * b) ≡ (modulo o g).mul (number a) (number b)
+  number-mul a b = remainder_same (a * b ∷ []) (times o (a ∷ []) (b ∷ [])) (one a b) ∙ remainder-product (a ∷ []) (b ∷ [])
+
+  pub number_zero : number 𝟘 ≡ remainder o g []
+  number_zero = remainder_same (𝟘 ∷ []) [] nothing
+    where
+      nothing : (i : ℕ) → coeff o (𝟘 ∷ []) i ≡ 𝟘
+      nothing zero = refl
+      nothing (suc i) = refl
+
+  -- a product by Horner's rule: one coefficient of the first factor at a time, from the top
+  pub product_step : (a : C) (f h : List C) → length h ≡ degree_of o g → (modulo o g).mul (a ∷ f) h ≡ plus o (scaled o a h) (reduced o g (𝟘 ∷ (modulo o g).mul f h))
+  unfolding times remainder
+  product_step a f h e = remainder-plus (scaled o a h) (𝟘 ∷ times o f h) ∙ ap (λ z. plus o z (reduced o g (𝟘 ∷ rem (times o f h)))) (remainder_small (scaled o a h) (length-map h (o.mul a) ∙ e))

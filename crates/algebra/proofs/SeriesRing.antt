@@ -1,10 +1,12 @@
 -- The ring of series: the product by recursion on the place meets the laws.
-use Rattle.std.specs.Prelude.{◌≡◌, ℕ, zero, suc, [], ◌∷◌, refl}
-use Rattle.std.proofs.Common.{sym, ◌∙◌, ap, ap₂}
+use Rattle.std.specs.Prelude.{◌≡◌, ℕ, zero, suc, ◌-◌, [], ◌∷◌, refl}
+use Rattle.std.proofs.Common.{arith, sym, ◌∙◌, ap, ap₂}
 use mathlib.Core.Path.{fun_ext}
 use Rattle.algebra.specs.Ring.{CommRing, RingLaws}
+use Rattle.algebra.specs.Range.{total, adds}
 use Rattle.algebra.specs.Series.{Series, tail, zeros, const, sum, scaled, product, series}
 use Rattle.algebra.proofs.Basic.{add_zero, add_left_comm, zero_mul}
+use Rattle.algebra.proofs.Ranges.{total_first, total_cong, add_laws}
 use Rattle.algebra.proofs.Solver.{◌:+◌, ◌:*◌, solve4, env, solve, var}
 
 module _ (R : CommRing) where
@@ -55,6 +57,17 @@ module _ (R : CommRing) where
   unfolding product
   product_assoc f g h zero = R.mul_assoc (f zero) (g zero) (h zero)
   product_assoc f g h (suc n) = ap (λ z. f zero * g zero * h (suc n) + z) (product-sum (scaled o (f zero) (tail g)) (product o (tail f) g) h n ∙ ap₂ (λ y z. y + z) (product-scaled (f zero) (tail g) h n) (product_assoc (tail f) g h n)) ∙ solve R (env 𝟘 (f zero ∷ g zero ∷ h (suc n) ∷ product o (tail g) h n ∷ product o (tail f) (product o g h) n ∷ [])) (var 0 :* var 1 :* var 2 :+ (var 0 :* var 3 :+ var 4)) (var 0 :* (var 1 :* var 2 :+ var 3) :+ var 4) refl
+
+  -- each coefficient of a product is the sum of f j g (n - j) over j from 0 to n
+  pub product_is : (f g : Series C) (n : ℕ) → product o f g n ≡ total (adds o) (suc n) (λ j. f j * g (n - j))
+  product_is f g zero = product_head f g ∙ sym (R.zero_add (f zero * g zero))
+  product_is f g (suc n) = product_tail f g n ∙ ap (λ z. f zero * g (suc n) + z) (product_is (tail f) g n ∙ total_cong (adds o) (add_laws R) (suc n) (λ j. f (suc j) * g (n - j)) (λ j. f (suc j) * g (suc n - suc j)) (λ j l. ap (λ i. f (suc j) * g i) (down j))) ∙ ap (λ i. f zero * g i + total (adds o) (suc n) (λ j. f (suc j) * g (suc n - suc j))) whole ∙ sym (total_first (adds o) (add_laws R) (suc n) (λ j. f j * g (suc n - j)))
+    where
+      whole : suc n ≡ suc n - 0
+      whole = omega arith
+
+      down : (j : ℕ) → n - j ≡ suc n - suc j
+      down j = omega arith
 
   pub series_laws : RingLaws (series o)
   series_laws = record {

@@ -1,16 +1,17 @@
 -- The values of lists of coefficients: evaluation is a map of rings, also from the polynomials modulo g at a zero of g.
 use Rattle.std.specs.Prelude.{◌≡◌, ℕ, zero, suc, ◌+◌ as ◌+ₙ◌, ◌-◌ as ◌-ₙ◌, ◌<◌, List, [], ◌∷◌, ◌++◌, map, length, replicate, refl}
-use Rattle.std.proofs.Common.{arith, sym, ◌∙◌, ap, ap₂}
+use Rattle.std.proofs.Common.{map-id, arith, sym, ◌∙◌, ap, ap₂}
 use mathlib.Core.Path.{fun_ext}
 use Rattle.algebra.specs.Ring.{CommRing}
 use Rattle.algebra.specs.Hom.{Hom}
+use Rattle.algebra.specs.Range.{total, adds}
 use Rattle.algebra.specs.Power.{power}
 use Rattle.algebra.specs.Series.{Series, product, Below}
 use Rattle.algebra.specs.Poly.{coeff, SameCoeffs, value_at, plus, negated, scaled, times, monomial, at_power, IsMonic, remainder, quotient_digits}
 use Rattle.algebra.proofs.Basic.{zero_mul, mul_zero, add_zero, neg_zero}
-use Rattle.algebra.proofs.Homs.{map_zero, map_neg}
+use Rattle.algebra.proofs.Homs.{id_hom, map_zero, map_neg}
 use Rattle.algebra.proofs.Degrees.{Below-more}
-use Rattle.algebra.proofs.Evaluate.{horner, horner_same, horner-sum, horner-product}
+use Rattle.algebra.proofs.Evaluate.{horner, horner_same, horner-sum, horner-product, horner_is}
 use Rattle.algebra.proofs.Lists.{Below-coeff}
 use Rattle.algebra.proofs.Dividing.{divides}
 use Rattle.algebra.proofs.Held.{held_ring}
@@ -106,3 +107,40 @@ module _ (R S : CommRing) (F : Hom R S) (x : S.Carrier) (k : ℕ) (positive : 0 
     where
       next : suc (k -ₙ 1) ≡ k
       next = omega arith
+
+-- values over the ring of the coefficients itself
+module _ (R : CommRing) (x : R.Carrier) where
+  open R use {Carrier as C, ops as o, add as ◌+◌, mul as ◌*◌, neg as neg, zero as 𝟘, one as 𝟙}
+
+  infixl 70 ◌+◌
+  infixl 75 ◌*◌
+  own : (f : List C) → value R R (id_hom R) x f ≡ value_at o x f
+  own f = ap (value_at o x) (map-id f)
+
+  -- the value is the sum of the coefficients times powers
+  pub value_at_is : (f : List C) → value_at o x f ≡ total (adds o) (length f) (λ i. coeff o f i * power o x i)
+  value_at_is f = sym (own f) ∙ value_is R R (id_hom R) x f ∙ horner_is R R (id_hom R) x (length f) (coeff o f)
+
+  pub value_at_same : (f g : List C) → SameCoeffs o f g → value_at o x f ≡ value_at o x g
+  value_at_same f g s = sym (own f) ∙ value_same R R (id_hom R) x f g s ∙ own g
+
+  pub value_at-plus : (f g : List C) → value_at o x (plus o f g) ≡ value_at o x f + value_at o x g
+  value_at-plus f g = sym (own (plus o f g)) ∙ value-plus R R (id_hom R) x f g ∙ ap₂ (λ y z. y + z) (own f) (own g)
+
+  pub value_at-scaled : (a : C) (f : List C) → value_at o x (scaled o a f) ≡ a * value_at o x f
+  value_at-scaled a f = sym (own (scaled o a f)) ∙ value-scaled R R (id_hom R) x a f ∙ ap (λ z. a * z) (own f)
+
+  pub value_at-negated : (f : List C) → value_at o x (negated o f) ≡ neg (value_at o x f)
+  value_at-negated f = sym (own (negated o f)) ∙ value-negated R R (id_hom R) x f ∙ ap neg (own f)
+
+  pub value_at-times : (f g : List C) → value_at o x (times o f g) ≡ value_at o x f * value_at o x g
+  value_at-times f g = sym (own (times o f g)) ∙ value-times R R (id_hom R) x f g ∙ ap₂ (λ y z. y * z) (own f) (own g)
+
+  pub value_at-monomial : (k : ℕ) → value_at o x (monomial o k) ≡ power o x k
+  value_at-monomial k = sym (own (monomial o k)) ∙ value-monomial R R (id_hom R) x k
+
+  pub value_at-remainder : (g : List C) → IsMonic o g → value_at o x g ≡ 𝟘 → (f : List C) → value_at o x (remainder o g f) ≡ value_at o x f
+  value_at-remainder g M e f = sym (own (remainder o g f)) ∙ value-remainder R R (id_hom R) x g M (own g ∙ e) f ∙ own f
+
+  pub value_at-at_power : (k : ℕ) → 0 < k → (f : List C) → value_at o x (at_power o k f) ≡ value_at o (power o x k) f
+  value_at-at_power k p f = sym (own (at_power o k f)) ∙ value-substituted R R (id_hom R) x k p f ∙ ap (value_at o (power o x k)) (map-id f)

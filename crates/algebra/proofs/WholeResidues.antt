@@ -4,8 +4,8 @@ use Rattle.std.proofs.Common.{arith, sym, ◌∙◌, ap, ap₂, mod-lt, div-add-
 use Rattle.std.proofs.lemmas.Nat.{mul-mod_first, mul-mod_second}
 use Rattle.std.proofs.Math.Nat.{add-mul-mod_self_left, mod-add-mod, add-mod-mod, mod_self}
 use borrow.Author.Differences.{up, down, same_in, sum_is_lem, product_is}
-use Rattle.algebra.specs.Ring.{CommRing, residues}
-use Rattle.algebra.specs.Hom.{Hom}
+use Rattle.algebra.specs.Ring.{CommRing, residues, whole_numbers}
+use Rattle.algebra.specs.Hom.{Hom, Preserves}
 use Rattle.algebra.specs.Whole.{residue, quotient, SameModulo}
 use Rattle.algebra.proofs.Integers.{whole_ring}
 use Rattle.algebra.proofs.Residues.{residue_laws}
@@ -75,6 +75,10 @@ module _ (q : ℕ) (positive : 0 < q) where
 
 pub residue-neg : (q : ℕ) → 0 < q → (a : ℤ) → residue q (neg_ℤ a) ≡ (residues q).neg (residue q a)
 residue-neg q p a = ap (λ z. z.0) (map_neg whole_ring (residue_ring q p) (residue_hom q p) a)
+
+-- so it keeps the operations on numbers, and by that those on lists
+pub residue_preserves : (q : ℕ) → 0 < q → Preserves whole_numbers (residues q) (residue q)
+residue_preserves q p = record { keeps_zero = mod-eq_of_lt p; keeps_one = refl; keeps_add = residue-add q p; keeps_mul = residue-mul q p; keeps_neg = residue-neg q p }
 
 -- a whole number is its residue and a multiple of q
 pub residue_quotient : (q : ℕ) → 0 < q → (z : ℤ) → z ≡ pos (residue q z) +ℤ pos q *ℤ quotient q z

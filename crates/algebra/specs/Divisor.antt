@@ -1,5 +1,5 @@
 -- Divisors of natural numbers, the greatest common divisor, and units modulo m.
-use Rattle.std.specs.Prelude.{◌≡◌, ℕ, zero, suc, ◌+◌, ◌*◌, ◌%◌, Bool, true, false, cond, ◌&&◌, eqb}
+use Rattle.std.specs.Prelude.{List, [], ◌∷◌, ◌++◌, ◌≡◌, ℕ, zero, suc, ◌+◌, ◌*◌, ◌%◌, Bool, true, false, cond, ◌&&◌, eqb}
 use Rattle.algebra.specs.Range.{total, counts}
 
 -- m is a multiple of d
@@ -34,3 +34,12 @@ HasInverse m k = (u : ℕ) × (v : ℕ) × (k * u ≡ m * v + 1)
 -- how many of the numbers from 1 to m have no common divisor with m above 1
 abbrev pub number_of_units : ℕ → ℕ
 number_of_units m = total counts m (λ t. cond (is_unit m (suc t)) 1 0)
+
+-- the units modulo m among the numbers from 1 to n, in ascending order
+unfoldable pub units_upto : ℕ → ℕ → List ℕ
+units_upto m zero = []
+units_upto m (suc n) = units_upto m n ++ (elim (is_unit m (suc n)) [ true ↦ suc n ∷ [] | false ↦ [] ])
+
+-- the units modulo m, in ascending order
+abbrev pub units : ℕ → List ℕ
+units m = units_upto m m

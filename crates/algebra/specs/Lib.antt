@@ -6,3 +6,4 @@ pub mod Power
 pub mod Series
 pub mod Poly
 pub mod Whole
+pub mod Laws

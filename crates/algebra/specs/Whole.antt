@@ -1,7 +1,7 @@
 -- Whole numbers: residues, balanced residues, being equal up to a multiple, quotients.
 use Rattle.std.specs.List.{AllZip}
 use Rattle.algebra.specs.Divisor.{HasInverse}
-use Rattle.std.specs.Prelude.{◌≡◌, ℕ, zero, suc, ◌-◌, ◌*◌, ◌/◌, ◌%◌, ◌<◌, cond, leb, List, [], ◌∷◌, ◌++◌, AllPairs, ℤ, pos, negsuc, ◌+ℤ◌, ◌-ℤ◌, ◌*ℤ◌}
+use Rattle.std.specs.Prelude.{◌≡◌, ℕ, zero, suc, ◌-◌, ◌*◌, ◌/◌, ◌%◌, ◌<◌, cond, leb, List, [], ◌∷◌, ◌++◌, map, All, AllPairs, ℤ, pos, negsuc, ◌+ℤ◌, ◌-ℤ◌, ◌*ℤ◌, ◌≤ℤ◌, ◌<ℤ◌, neg_ℤ}
 
 -- the numbers below n, in order
 abbrev pub below : ℕ → List ℕ
@@ -26,6 +26,12 @@ quotient n (negsuc a) = negsuc (a / n)
 abbrev pub SameModulo : ℕ → ℤ → ℤ → Type 0
 SameModulo n a b = (k : ℤ) × (a ≡ b +ℤ pos n *ℤ k)
 
+-- what balanced is
+pub record IsBalanced (n : ℕ) (z r : ℤ) : Type 0 where
+  pub same : SameModulo n z r
+  pub high : (pos 2 *ℤ r) ≤ℤ pos n
+  pub low : neg_ℤ (pos n) <ℤ (pos 2 *ℤ r)
+
 abbrev pub product_of : List ℕ → ℕ
 product_of [] = 1
 product_of (x ∷ xs) = x * product_of xs
@@ -38,3 +44,8 @@ AreInvertible qs = AllPairs (λ q r. HasInverse r q) qs
 pub record IsChinese (qs rs : List ℕ) (x : ℕ) : Type 0 where
   pub small : x < product_of qs
   pub residues : AllZip (λ q r. x % q ≡ r) qs rs
+
+-- f is the row of numbers below the product of qs whose rows of residues modulo qs are rows
+pub record IsChineseRow (qs : List ℕ) (rows : List (List ℕ)) (f : List ℕ) : Type 0 where
+  pub small : All (λ c. c < product_of qs) f
+  pub residues : AllZip (λ q row. map (λ c. c % q) f ≡ row) qs rows

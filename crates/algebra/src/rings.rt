@@ -1,8 +1,9 @@
 //! The rings that all others are made of, and sums of natural numbers.
 
-ghost use Rattle.std.specs.Prelude.{ℕ, ◌<◌, ltb};
+ghost use Rattle.std.specs.Prelude.{ℕ, ◌<◌, Bool, ltb};
 ghost use Rattle.algebra.specs.Range.{MonoidLaws, counts};
-ghost use Rattle.algebra.specs.Ring.{RingLaws, HeldLaws, whole_numbers, residues};
+ghost use Rattle.algebra.specs.Ring.{Ops, RingLaws, HeldLaws, whole_numbers, residues};
+ghost use Rattle.algebra.specs.Laws.{PowerLaw};
 
 /// Sums of natural numbers are sums over a commutative operation with a unit.
 pub fn law_counts()
@@ -17,4 +18,21 @@ pub fn law_whole_numbers()
 /// The numbers below `q` are a commutative ring with one under sum and product modulo `q`.
 pub fn law_residues()
     ensures { (q : ℕ) → 0 < q → HeldLaws (λ a. ltb a q) (residues q) }
+{}
+
+/// Any commutative ring: its elements are those of a carrier that are held. No code computes in it.
+pub trait AnyRing {
+    ghost Val: { Type 0 };
+
+    ghost held: { Val → Bool };
+
+    ghost ops: { Ops Val };
+
+    ghost laws: { HeldLaws held ops };
+}
+
+/// Powers under sums and products of exponents; the geometric sum, `(x - 1) (1 + x + .. + x^(n - 1)) = x^n - 1`, without a
+/// quotient; and `x^m - 1` divides `x^(m n) - 1`.
+pub fn law_powers<R: AnyRing>()
+    ensures { PowerLaw R.held R.ops }
 {}

@@ -10,3 +10,10 @@ pub mod NormLaws
 pub mod NormMaps
 pub mod Coefficients
 pub mod DualBasis
+pub mod PhiLists
+pub mod RingR
+pub mod Listed
+pub mod NormLists
+pub mod Substitution
+pub mod PhiLaws
+pub mod PhiValues

@@ -1,12 +1,14 @@
 -- Roots of unity without a field: differences of powers have inverses, and the transform is turned back.
-use Rattle.std.specs.Prelude.{◌≡◌, ℕ, ◌+◌ as ◌+ₙ◌, ◌-◌ as ◌-ₙ◌, ◌*◌ as ◌*ₙ◌, ◌<◌, ◌≢◌, ◌⊎◌, refl}
-use Rattle.std.proofs.Common.{sym, ◌∙◌, ap, ap₂, subst, inl, inr, arith, mul_comm}
-use Rattle.std.proofs.lemmas.Bool.{cases_order}
+use Rattle.std.specs.Prelude.{◌≡◌, ℕ, ◌+◌ as ◌+ₙ◌, ◌-◌ as ◌-ₙ◌, ◌*◌ as ◌*ₙ◌, ◌/◌, ◌%◌, ◌<◌, ◌≢◌, ◌⊎◌, refl, ◌≤◌}
+use Rattle.std.proofs.Common.{eq-eqb, div-add-mod', mod-lt, sym, ◌∙◌, ap, ap₂, subst, inl, inr, arith, mul_comm}
+use Rattle.std.proofs.lemmas.Bool.{cases_order, cases_lt}
 use Rattle.algebra.specs.Ring.{CommRing}
 use Rattle.algebra.specs.Range.{total, adds}
 use Rattle.algebra.specs.Power.{less, power, geometric, number, Divides, IsUnit}
 use Rattle.algebra.proofs.Basic.{mul_zero}
-use Rattle.algebra.proofs.Divisors.{Dvd_positive, Dvd_le}
+use Rattle.algebra.specs.Divisor.{HasInverse}
+use Rattle.algebra.proofs.Divisors.{divisor_of_test, larger_no, Dvd_positive, Dvd_le}
+use Rattle.algebra.proofs.Units.{unit_cancels}
 use Rattle.algebra.proofs.Euclid.{Euclid, euclid}
 use Rattle.algebra.proofs.Ranges.{total_cong, total_exchange, total_single, total-mul, mul-total, add_laws}
 use Rattle.algebra.proofs.Powers.{power-add, power-mul, power-product, power_one, power_divides, geometric_is, geometric_one, unit_of_divisor, unit_product, unit_cancel}
@@ -71,15 +73,29 @@ module _ (R : CommRing) where
     pub inverse_difference : (t : ℕ) → Unit_of (pow w t - 𝟙) → Unit_of (pow v t - 𝟙)
     inverse_difference t u = unit_of_divisor R (pow v t - 𝟙) (pow w t - 𝟙) (neg (pow w t), solve1 R (λ a. a :- :1) (λ a. minus (:1 :- a)) refl (pow w t) ∙ ap (λ z. neg (z - pow w t)) (sym (powers_inverse t)) ∙ solve2 R (λ a b. minus (a :* b :- a)) (λ a b. (b :- :1) :* minus a) refl (pow w t) (pow v t)) u
 
-  -- two different powers of a root below m differ by an element with an inverse
-  pub root_apart : (w v : R.Carrier) (m : ℕ) → w * v ≡ 𝟙 → IsRoot R.ops w m → (i j : ℕ) → i < m → j < i → Unit_of (pow w i - pow w j)
-  root_apart w v m e h i j l k = subst Unit_of whole (unit_product R (pow w j) (pow w (i -ₙ j) - 𝟙) (power_unit w v e j) (root_differences w m h (i -ₙ j) (omega arith) (omega arith)))
+  -- two powers of a root whose exponents differ by less than m differ by an element with an inverse
+  pub root_apart : (w v : R.Carrier) (m : ℕ) → w * v ≡ 𝟙 → IsRoot R.ops w m → (i j : ℕ) → j < i → i < j +ₙ m → Unit_of (pow w i - pow w j)
+  root_apart w v m e h i j k l = subst Unit_of whole (unit_product R (pow w j) (pow w (i -ₙ j) - 𝟙) (power_unit w v e j) (root_differences w m h (i -ₙ j) (omega arith) (omega arith)))
     where
       fill : i ≡ j +ₙ (i -ₙ j)
       fill = omega arith
 
       whole : pow w j * (pow w (i -ₙ j) - 𝟙) ≡ pow w i - pow w j
       whole = solve2 R (λ a b. a :* (b :- :1)) (λ a b. a :* b :- a) refl (pow w j) (pow w (i -ₙ j)) ∙ ap (λ z. z - pow w j) (sym (power-add R w j (i -ₙ j)) ∙ sym (ap (pow w) fill))
+
+  -- a power of a root with a unit as its exponent is a root
+  pub unit_root : (w : R.Carrier) (m j : ℕ) → 0 < m → HasInverse m j → IsRoot R.ops w m → IsRoot R.ops (pow w j) m
+  unit_root w m j p unit h = record { root = root_power w m j h.root; at_divisors = λ k q l d. subst (λ z. Unit_of (z - 𝟙)) (sym (reduce k)) (root_differences w m h ((j *ₙ k) % m) (positive k q l) (mod-lt (j *ₙ k) p)) }
+    where
+      reduce : (k : ℕ) → pow (pow w j) k ≡ pow w ((j *ₙ k) % m)
+      reduce k = sym (power-mul R w j k) ∙ ap (pow w) (sym (div-add-mod' (j *ₙ k) m) ∙ ap (λ z. z +ₙ (j *ₙ k) % m) (mul_comm ((j *ₙ k) / m) m)) ∙ root-shift w m ((j *ₙ k) / m) ((j *ₙ k) % m) h.root
+
+      positive : (k : ℕ) → 0 < k → k < m → 0 < (j *ₙ k) % m
+      positive k q l = go (cases_lt 0 ((j *ₙ k) % m))
+        where
+          go : (0 < (j *ₙ k) % m) ⊎ ((j *ₙ k) % m ≤ 0) → 0 < (j *ₙ k) % m
+          go (inl s) = s
+          go (inr s) = absurd (larger_no m k q l (unit_cancels m j k unit (divisor_of_test m (j *ₙ k) (eq-eqb ((j *ₙ k) % m) 0 (omega arith)))))
 
   -- the sum of the powers of another root is 0
   pub root_sum : (r : R.Carrier) (m : ℕ) → pow r m ≡ 𝟙 → Unit_of (r - 𝟙) → geometric R.ops r m ≡ 𝟘

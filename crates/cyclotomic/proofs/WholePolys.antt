@@ -23,7 +23,7 @@ no_torsion (suc n) a p e = same_in a (pos 0) (omega (arith, product_is (pos (suc
     whole : pos (suc n) *ℤ a ≡ pos 0
     whole = ap (λ z. z *ℤ a) (sym (number_is (suc n))) ∙ e
 
-zero_apart : pos 0 ≢ pos 1
+pub zero_apart : pos 0 ≢ pos 1
 zero_apart e = omega (arith, ap up e)
 
 abbrev pub WholePoly : Type 0

@@ -1,4 +1,7 @@
 pub mod Family
 pub mod Roots
 pub mod Trace
-pub mod Laws
+pub mod Cyclotomic
+pub mod Norm
+pub mod NormLaws
+pub mod CyclotomicLaws

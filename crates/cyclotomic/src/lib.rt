@@ -1,9 +1,8 @@
 //! The cyclotomic polynomials over the whole numbers, the ring of whole polynomials modulo one of them, and its norm.
+//!
+//! Nothing here runs: each function is a law, whose statement stands in `specs/` and whose proof stands in `proofs/`.
 #![tactic(auto)]
 
-ghost use Rattle.cyclotomic.specs.Laws.{UnitsOfDivisors};
-
-/// The numbers of units modulo the divisors of `m` sum to `m`.
-pub fn law_units_of_divisors()
-    ensures { UnitsOfDivisors }
-{}
+pub mod norm;
+pub mod polynomials;
+pub mod ring;

@@ -1,0 +1,5 @@
+use Rattle.cyclotomic.proofs.Substitution.{substitution_by_one}
+use Rattle.cyclotomic.proofs.ring.law_substitution_by_one.Goals as goal
+
+pub returns : goal.returns
+returns c = substitution_by_one
