@@ -1,5 +1,5 @@
 -- What a basis says of the modulus and the inverses at one place.
-use Rattle.std.specs.Prelude.{◌≡◌, ℕ, zero, suc, ◌*◌, ◌%◌, ◌<◌, ◌≤◌, All, List, [], ◌∷◌, length, map, take, get_or}
+use Rattle.std.specs.Prelude.{◌≡◌, ℕ, suc, ◌*◌, ◌%◌, ◌<◌, All, List, [], ◌∷◌, length, map, take, get_or}
 use Rattle.std.specs.List.{AllZip}
 use Rattle.std.proofs.Common.{arith, sym, ◌∙◌, ap, subst}
 use Rattle.std.proofs.lemmas.List.{get_or-map, get_or-take, length-take-le}

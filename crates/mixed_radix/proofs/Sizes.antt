@@ -1,10 +1,10 @@
 -- Absolute values of sums and products, and balanced numbers.
-use Rattle.std.specs.Prelude.{◌≡◌, ℕ, zero, suc, ◌+◌, ◌-◌, ◌*◌, ◌%◌, ◌<◌, ◌≤◌, ◌<ℤ◌, ◌≤ℤ◌, cond, leb, All, List, [], ◌∷◌, ℤ, pos, negsuc, ◌+ℤ◌, ◌-ℤ◌, ◌*ℤ◌, neg_ℤ, nat_abs, refl}
+use Rattle.std.specs.Prelude.{◌≡◌, ℕ, ◌+◌, ◌*◌, ◌%◌, ◌<◌, ◌≤◌, ◌<ℤ◌, ◌≤ℤ◌, cond, leb, ℤ, pos, negsuc, ◌+ℤ◌, ◌-ℤ◌, ◌*ℤ◌, neg_ℤ, nat_abs, refl}
 use Rattle.std.proofs.Common.{arith, sym, ◌∙◌, ap}
 use Rattle.std.proofs.lemmas.Int.{ints}
-use borrow.Author.Differences.{up, down, same_in, sum_is_lem, product_is, abs_is}
-use Rattle.algebra.specs.Whole.{residue, balanced, IsBalanced}
-use Rattle.algebra.proofs.Balanced.{balanced_is, balanced_only}
+use borrow.Author.Differences.{product_is, abs_is}
+use Rattle.algebra.specs.Whole.{residue, balanced}
+use Rattle.algebra.proofs.Balanced.{balanced_only}
 use Rattle.algebra.proofs.Chinese.{same_refl}
 
 pub abs_sum : (a b : ℤ) → nat_abs (a +ℤ b) ≤ nat_abs a + nat_abs b
