@@ -2,7 +2,7 @@
 use Rattle.std.specs.Prelude.{◌≡◌, ℕ, zero, suc, ◌%◌, ◌^◌, ◌<◌, ◌≤◌, List, [], ◌∷◌, length, get_or, refl}
 use Rattle.std.proofs.Common.{arith, sym, subst, lit<, lit≤}
 use Rattle.std.proofs.lemmas.List.Elements.{All-nil, All-cons}
-use Rattle.mixed_radix.specs.Basis.{Basis, IsBasis, IsInverse}
+use Rattle.mixed_radix.specs.Basis.{IsBasis, IsInverse}
 
 abbrev pub moduli : List ℕ
 moduli = 2305843009213693951 ∷ 2305843009213693921 ∷ 2305843009213693907 ∷ []
