@@ -1,0 +1,2 @@
+pub mod LargeBasis
+pub mod SmallBasis
