@@ -1,2 +1,4 @@
 pub mod Choices
+pub mod Halves
 pub mod Ones
+pub mod Words

@@ -5,12 +5,15 @@
 //! at the place where it starts, and moves the place by the words that it takes.
 #![tactic(auto)]
 
+mod divisor;
+
 ghost use Rattle.std.specs.Prelude.{◌≡◌, ◌^◌, ◌<◌, ◌≤◌, length, replicate, pos, unsigned_abs, IfOk, OnOk, OnErr};
 ghost use Rattle.std.specs.List.{range_with_len};
 ghost use Rattle.rand_chacha.specs.ChaCha.{key_of};
 ghost use Rattle.draw_stream.specs.Draw.{word, after, HasRoom, error_of, small_of, uniform_at};
 ghost use Rattle.draw_stream.specs.Sparse.{IsStart, sign_of, sparse_of, sparse_words, SparseIsSparse};
 
+use divisor::Divisor;
 use rand_chacha::ChaCha20Rng;
 use rand_core::SeedableRng;
 use rand_core::utils::NextWord;
@@ -23,6 +26,8 @@ use std::marker::Model;
 #[derive(Drop)]
 pub struct Draws {
     words: ChaCha20Rng,
+    // of the last uniform number
+    divisor: Divisor,
 }
 
 impl Model for Draws {
@@ -40,7 +45,10 @@ impl Draws {
     {
         let mut words = ChaCha20Rng::from_seed(seed);
         words.set_stream(stream);
-        Draws { words }
+        Draws {
+            words,
+            divisor: Divisor::new(1),
+        }
     }
 
     /// The place of the next word, as the number of words before it.
@@ -59,12 +67,14 @@ impl Draws {
         ensures below { result < q }
         ensures moved { self.new ≡ after self.old 4 }
     {
-        let a = u128::from(self.next());
-        let b = u128::from(self.next());
-        let c = u128::from(self.next());
-        let d = u128::from(self.next());
-        let number = a + (b << 32) + (c << 64) + (d << 96);
-        (number % u128::from(q)) as u64
+        let a = u64::from(self.next());
+        let b = u64::from(self.next());
+        let c = u64::from(self.next());
+        let d = u64::from(self.next());
+        let low = a + (b << 32);
+        let high = c + (d << 32);
+        self.divisor.set_modulus(q);
+        self.divisor.residue(high, low)
     }
 
     /// -1, 0 or 1, from one word: bit 0 less bit 1.
