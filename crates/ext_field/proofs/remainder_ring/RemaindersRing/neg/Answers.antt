@@ -1,0 +1,14 @@
+use Rattle.ext_field.proofs.Across.{into, out, short, negative_out}
+use Rattle.ext_field.proofs.remainder_ring.RemaindersRing.neg.Goals as goal
+
+pub neg-requires-clause-a_held : goal.neg-requires-clause-a_held
+neg-requires-clause-a_held c = into _ _ c.args.self.now _ c.args.a.now c.self.invariant.3 c.self.view_is c.a.view_is c.requires.a_held
+
+pub invariant_of-result : goal.invariant_of-result
+invariant_of-result c = short _ _ _ c.self.invariant.3 c.self.invariant.0 c.in_ok-poly.ensures.held
+
+pub returns-clause-value : goal.returns-clause-value
+returns-clause-value c = negative_out _ _ c.args.self.now c.self.invariant.2 c.self.view_is _ c.args.a.now _ c.a.view_is c.in_ok-poly.ensures.value
+
+pub returns-clause-held : goal.returns-clause-held
+returns-clause-held c = out _ _ c.args.self.now _ c.self.invariant.3 c.self.view_is c.in_ok-poly.ensures.held
