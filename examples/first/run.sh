@@ -3,7 +3,9 @@
 set -eu
 example=$(cd "$(dirname "$0")" && pwd)
 crate="$example/../../crates/helib_cli"
-# With no words the program that was built stops with status 2.
-log=$(cd "$crate" && rt run 2>&1) || [ $? -eq 2 ] || { printf '%s\n' "$log"; exit 1; }
+program="$crate/out/helib_cli"
+# With no words the program that was built stops, so only what stands after the call counts.
+log=$(cd "$crate" && rt run 2>&1) || true
+[ -x "$program" ] || { printf '%s\n' "$log"; exit 1; }
 cd "$example"
-exec "$crate/out/helib_cli" clear a prod x y
+exec "$program" clear a prod x y
