@@ -7,3 +7,4 @@ pub mod Series
 pub mod Poly
 pub mod Whole
 pub mod Laws
+pub mod Totals

@@ -2,6 +2,7 @@
 
 ghost use Rattle.std.specs.Prelude.{◌≡◌, ◌↔◌, ℕ, ◌<◌, All, List, length, map, ℤ, IsTrue};
 ghost use Rattle.std.specs.List.{AllZip};
+ghost use Rattle.algebra.specs.Totals.{EuclidLaw};
 ghost use Rattle.algebra.specs.Ring.{whole_numbers, residues};
 ghost use Rattle.algebra.specs.Hom.{Preserves};
 ghost use Rattle.algebra.specs.Poly.{IsMonic, modulo};
@@ -54,4 +55,10 @@ pub fn law_chinese_rows()
 pub fn law_units()
     ensures inverse { (m k : ℕ) → 0 < m → 0 < k → UnitModulo m k ↔ HasInverse m k }
     ensures test { (m k : ℕ) → 0 < m → 0 < k → IsTrue (is_unit m k) ↔ UnitModulo m k }
+{}
+
+/// Euclid's algorithm with coefficients: a common divisor of two numbers is a multiple of the first less a multiple of the
+/// second.
+pub fn law_euclid()
+    ensures { EuclidLaw }
 {}

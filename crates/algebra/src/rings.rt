@@ -1,9 +1,10 @@
 //! The rings that all others are made of, and sums of natural numbers.
 
 ghost use Rattle.std.specs.Prelude.{ℕ, ◌<◌, Bool, ltb};
-ghost use Rattle.algebra.specs.Range.{MonoidLaws, counts};
+ghost use Rattle.algebra.specs.Range.{Monoid, MonoidLaws, counts};
 ghost use Rattle.algebra.specs.Ring.{Ops, RingLaws, HeldLaws, whole_numbers, residues};
 ghost use Rattle.algebra.specs.Laws.{PowerLaw};
+ghost use Rattle.algebra.specs.Totals.{TotalLaw};
 
 /// Sums of natural numbers are sums over a commutative operation with a unit.
 pub fn law_counts()
@@ -35,4 +36,19 @@ pub trait AnyRing {
 /// quotient; and `x^m - 1` divides `x^(m n) - 1`.
 pub fn law_powers<R: AnyRing>()
     ensures { PowerLaw R.held R.ops }
+{}
+
+/// Any commutative operation with a unit. No code computes with it.
+pub trait AnyMonoid {
+    ghost Val: { Type 0 };
+
+    ghost operation: { Monoid Val };
+
+    ghost laws: { MonoidLaws operation };
+}
+
+/// Sums and products over ranges: of equal terms, of a range in two pieces, of rows and columns, from the other end, and
+/// of terms of which all but one are the unit.
+pub fn law_totals<M: AnyMonoid>()
+    ensures { TotalLaw M.operation }
 {}
