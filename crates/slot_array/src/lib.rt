@@ -1,0 +1,2 @@
+//! Arrays of elements of an extension, one for each slot, and what the instructions make of them.
+#![tactic(auto)]

@@ -1,0 +1,2 @@
+//! The slots of a polynomial: definitions and laws.
+#![tactic(auto)]
