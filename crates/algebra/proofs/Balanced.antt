@@ -6,7 +6,8 @@ use Rattle.std.proofs.lemmas.Int.{ints}
 use Rattle.algebra.specs.Whole.{residue, balanced, quotient, IsBalanced}
 use Rattle.algebra.proofs.Integers.{whole_ring}
 use Rattle.algebra.proofs.WholeResidues.{residue_lt, residue_quotient, same_residue}
-use Rattle.algebra.proofs.Solver.{◌:+◌, ◌:-◌, ◌:*◌, :1, solve3}
+use Rattle.algebra.specs.Expression.{◌:+◌, ◌:-◌, ◌:*◌, :1}
+use Rattle.algebra.proofs.Solver.{solve3}
 
 pub balanced_is : (n : ℕ) → 0 < n → (z : ℤ) → IsBalanced n z (balanced n z)
 balanced_is n p z = go (leb (2 * residue n z) n) refl

@@ -11,7 +11,8 @@ use Rattle.algebra.specs.Whole.{residue, quotient, SameModulo, product_of, AreIn
 use Rattle.algebra.proofs.Integers.{whole_ring}
 use Rattle.algebra.proofs.Powers.{product_divides, Meets_product, Meets_sym}
 use Rattle.algebra.proofs.WholeResidues.{residue_lt, same_residue, same_modulo, residue_quotient}
-use Rattle.algebra.proofs.Solver.{◌:+◌, ◌:-◌, ◌:*◌, :0, :1, minus, solve1, solve2, solve3, solve4}
+use Rattle.algebra.specs.Expression.{◌:+◌, ◌:-◌, ◌:*◌, :0, :1, minus}
+use Rattle.algebra.proofs.Solver.{solve1, solve2, solve3, solve4}
 
 -- a number with an inverse modulo n, from the test of it
 pub inverse_of_residue : (n a u : ℕ) → 1 < n → (a * u) % n ≡ 1 → HasInverse n a

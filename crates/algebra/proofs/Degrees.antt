@@ -6,7 +6,8 @@ use Rattle.algebra.specs.Ring.{CommRing}
 use Rattle.algebra.specs.Series.{Series, tail, cons, zeros, const, sum, negated, scaled, product, Below, Monic, IsDivision}
 use Rattle.algebra.proofs.Basic.{add_zero, add_neg, mul_one, mul_zero, neg_zero, add_cancel}
 use Rattle.algebra.proofs.SeriesRing.{product_head, product_tail, product_zeros, product-sum}
-use Rattle.algebra.proofs.Solver.{◌:+◌, ◌:-◌, ◌:*◌, minus, :0, solve2, solve3, solve4}
+use Rattle.algebra.specs.Expression.{◌:+◌, ◌:-◌, ◌:*◌, minus, :0}
+use Rattle.algebra.proofs.Solver.{solve2, solve3, solve4}
 
 module _ (R : CommRing) where
   open R use {Carrier as C, ops as o, add as ◌+◌, mul as ◌*◌, neg as neg, zero as 𝟘, one as 𝟙}

@@ -15,7 +15,8 @@ use Rattle.algebra.proofs.Ranges.{total_first, total_cong, add_laws, mul-total}
 use Rattle.algebra.proofs.SeriesRing.{product_head, product_tail, product_zeros}
 use Rattle.algebra.proofs.Degrees.{Below-zero, Below-tail, Below-more, Below-sum, Below-product, Below-const}
 use Rattle.algebra.proofs.Polynomials.{Poly, poly_ring, X, constant}
-use Rattle.algebra.proofs.Solver.{◌:+◌, ◌:*◌, :0, :1, var, env, solve, solve2, solve3, solve4}
+use Rattle.algebra.specs.Expression.{◌:+◌, ◌:*◌, :0, :1, var}
+use Rattle.algebra.proofs.Solver.{env, solve, solve2, solve3, solve4}
 
 module _ (R S : CommRing) (F : Hom R S) (x : S.Carrier) where
   open S use {add as ◌+◌, mul as ◌*◌, zero as 𝟘, one as 𝟙}

@@ -5,7 +5,8 @@ use Rattle.std.proofs.lemmas.Bool.{and_parts, and_from}
 use Rattle.algebra.specs.Ring.{Ops, HeldLaws}
 use Rattle.algebra.specs.Hom.{Preserves}
 use Rattle.algebra.specs.Poly.{all_held, plus, negated, scaled, times, at_power, remainder, quotient_by}
-use Rattle.algebra.proofs.Held.{Held, same_held, held_ops}
+use Rattle.algebra.specs.HeldRing.{Held, held_ops}
+use Rattle.algebra.proofs.Held.{same_held}
 use Rattle.algebra.proofs.Maps.{map_plus, map_negated, map_scaled, map_times, map_at_power, map_remainder, map_quotient_by}
 
 -- Laws of held elements go along a map that keeps the operations and reaches every held element.

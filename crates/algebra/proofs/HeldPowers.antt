@@ -5,7 +5,8 @@ use mathlib.Core.Path.{fun_ext}
 use Rattle.algebra.specs.Ring.{Ops, HeldLaws}
 use Rattle.algebra.specs.Range.{total, adds}
 use Rattle.algebra.specs.Power.{power, geometric, less, Divides}
-use Rattle.algebra.proofs.Held.{Held, held_ops, held_ring}
+use Rattle.algebra.specs.HeldRing.{Held, held_ops}
+use Rattle.algebra.proofs.Held.{held_ring}
 use Rattle.algebra.proofs.Homs.{keeps_power, keeps_adds, keeps_divides}
 use Rattle.algebra.proofs.Powers.{power-add, power-mul, geometric_is, power_divides}
 use Rattle.algebra.proofs.HeldLists.{held_preserves}

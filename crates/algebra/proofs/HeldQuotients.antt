@@ -8,7 +8,8 @@ use Rattle.algebra.specs.Ring.{Ops, CommRing, HeldLaws}
 use Rattle.algebra.specs.Hom.{Hom, Preserves}
 use Rattle.algebra.specs.Series.{product}
 use Rattle.algebra.specs.Poly.{all_held, row_held, coeff, plus, negated, scaled, times, reduced, degree_of, IsMonic, remainder, quotient_by, IsDivided, modulo}
-use Rattle.algebra.proofs.Held.{Held, same_held, held_ops, held_ring}
+use Rattle.algebra.specs.HeldRing.{Held, held_ops}
+use Rattle.algebra.proofs.Held.{same_held, held_ring}
 use Rattle.algebra.proofs.Homs.{keeps_product}
 use Rattle.algebra.proofs.Lists.{coeff-plus, coeff-times}
 use Rattle.algebra.proofs.Maps.{map_coeff, map_plus, map_negated, map_scaled, map_reduced, map_times, map_degree_of, map_remainder, map_quotient_by, map_modulo}

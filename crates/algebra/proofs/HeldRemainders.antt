@@ -4,7 +4,8 @@ use Rattle.std.proofs.Common.{sym, ◌∙◌, ap, ap₂}
 use Rattle.std.proofs.lemmas.List.{length-map}
 use Rattle.algebra.specs.Ring.{Ops, HeldLaws}
 use Rattle.algebra.specs.Poly.{all_held, SameCoeffs, plus, times, degree_of, IsMonic, remainder, modulo}
-use Rattle.algebra.proofs.Held.{Held, same_held, held_ops, held_ring}
+use Rattle.algebra.specs.HeldRing.{Held, held_ops}
+use Rattle.algebra.proofs.Held.{same_held, held_ring}
 use Rattle.algebra.proofs.Maps.{map_coeff, map_plus, map_times, map_degree_of, map_remainder, map_modulo}
 use Rattle.algebra.proofs.Quotients.{remainder_same, remainder_small, remainder-plus, remainder-product}
 use Rattle.algebra.proofs.HeldLists.{values, each_list, held_preserves}

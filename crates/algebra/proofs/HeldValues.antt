@@ -8,7 +8,8 @@ use Rattle.algebra.specs.Range.{total, adds}
 use Rattle.algebra.specs.Power.{power}
 use Rattle.algebra.specs.Series.{spread}
 use Rattle.algebra.specs.Poly.{all_held, coeff, SameCoeffs, plus, times, value_at, at_power, IsMonic, remainder}
-use Rattle.algebra.proofs.Held.{Held, same_held, held_ops, held_ring}
+use Rattle.algebra.specs.HeldRing.{Held, held_ops}
+use Rattle.algebra.proofs.Held.{same_held, held_ring}
 use Rattle.algebra.proofs.Homs.{keeps_power, keeps_adds, keeps_spread}
 use Rattle.algebra.proofs.Maps.{map_coeff, map_plus, map_times, map_value_at, map_at_power, map_remainder}
 use Rattle.algebra.proofs.HeldLists.{values, each_list, held_preserves}

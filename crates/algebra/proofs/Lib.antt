@@ -32,3 +32,4 @@ pub mod Chinese
 pub mod UnitList
 pub mod ChineseRows
 pub mod ResidueUnits
+pub mod HeldExpressions

@@ -5,7 +5,8 @@ use Rattle.algebra.specs.Ring.{Ops, CommRing, HeldLaws}
 use Rattle.algebra.specs.Hom.{Preserves}
 use Rattle.algebra.specs.Power.{power}
 use Rattle.algebra.specs.Poly.{SameCoeffs, value_at, plus, negated, scaled, times, at_power, IsMonic, remainder}
-use Rattle.algebra.proofs.Held.{Held, same_held, held_ops, held_ring}
+use Rattle.algebra.specs.HeldRing.{Held, held_ops}
+use Rattle.algebra.proofs.Held.{same_held, held_ring}
 use Rattle.algebra.proofs.Homs.{keeps_power}
 use Rattle.algebra.proofs.Maps.{map_value_at}
 use Rattle.algebra.proofs.Values.{value, value_same, value-plus, value-negated, value-scaled, value-times, value-remainder, value-substituted}

@@ -6,7 +6,8 @@ use Rattle.algebra.specs.Range.{adds}
 use Rattle.algebra.specs.Power.{power, geometric, number, Divides, IsUnit, Meets, less}
 use Rattle.algebra.proofs.Basic.{mul_one, zero_mul, mul_zero}
 use Rattle.algebra.proofs.Ranges.{total_cong, add_laws, total_split}
-use Rattle.algebra.proofs.Solver.{var, :0, :1, minus, ◌:+◌, ◌:-◌, ◌:*◌, solve, env, solve1, solve2, solve3, solve4}
+use Rattle.algebra.specs.Expression.{var, :0, :1, minus, ◌:+◌, ◌:-◌, ◌:*◌}
+use Rattle.algebra.proofs.Solver.{solve, env, solve1, solve2, solve3, solve4}
 
 module _ (R : CommRing) where
   open R use {add as ◌+◌, mul as ◌*◌, neg as neg, zero as 𝟘, one as 𝟙}

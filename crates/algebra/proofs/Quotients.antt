@@ -12,7 +12,8 @@ use Rattle.algebra.proofs.SeriesRing.{series_ring, product_comm, product_assoc, 
 use Rattle.algebra.proofs.Degrees.{Below-sum, Below-negated, Below-scaled, Below-more, Below-product, Below-zeros}
 use Rattle.algebra.proofs.Lists.{same_list, Below-coeff, length-plus, coeff-cons, coeff-plus, coeff-negated, coeff-scaled, coeff-times}
 use Rattle.algebra.proofs.Dividing.{length-remainder, coeff-none, divides, remainder_of}
-use Rattle.algebra.proofs.Solver.{◌:+◌, ◌:*◌, minus, :0, var, env, solve}
+use Rattle.algebra.specs.Expression.{◌:+◌, ◌:*◌, minus, :0, var}
+use Rattle.algebra.proofs.Solver.{env, solve}
 
 module _ (R : CommRing) (g : List R.Carrier) (M : IsMonic R.ops g) where
   open R use {Carrier as C, ops as o, add as ◌+◌, mul as ◌*◌, neg as neg, zero as 𝟘, one as 𝟙}

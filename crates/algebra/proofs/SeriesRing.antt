@@ -7,7 +7,8 @@ use Rattle.algebra.specs.Range.{total, adds}
 use Rattle.algebra.specs.Series.{Series, tail, zeros, const, sum, scaled, product, series}
 use Rattle.algebra.proofs.Basic.{add_zero, add_left_comm, zero_mul}
 use Rattle.algebra.proofs.Ranges.{total_first, total_cong, add_laws}
-use Rattle.algebra.proofs.Solver.{◌:+◌, ◌:*◌, solve4, env, solve, var}
+use Rattle.algebra.specs.Expression.{◌:+◌, ◌:*◌, var}
+use Rattle.algebra.proofs.Solver.{solve4, env, solve}
 
 module _ (R : CommRing) where
   open R use {Carrier as C, ops as o, add as ◌+◌, mul as ◌*◌, neg as neg, zero as 𝟘, one as 𝟙}

@@ -1,81 +1,12 @@
 -- A solver for equations that hold in every commutative ring.
 -- An expression becomes two sorted lists of monomials, those to add and those to take away.
 -- Two expressions are equal where these lists agree; the check of that is `refl`.
-use Rattle.std.specs.Prelude.{◌≡◌, ℕ, zero, suc, Bool, true, false, cond, eqb, ltb, List, [], ◌∷◌, refl}
+use Rattle.std.specs.Prelude.{◌≡◌, ℕ, zero, suc, Bool, true, false, cond, ltb, List, [], ◌∷◌, refl}
 use Rattle.std.proofs.Common.{sym, ◌∙◌, ap, ap₂}
 use Rattle.algebra.specs.Ring.{CommRing}
+use Rattle.algebra.specs.Expression.{Expr, var, :0, :1, ◌:+◌, ◌:*◌, ◌:-◌, minus, Monomials, before, put, times, ins, join, scale, cross, Normal, both_plus, both_times, turned, normal, Same}
+use Rattle.algebra.specs.Expression as written
 use Rattle.algebra.proofs.Basic.{add_left_comm, mul_add, mul_one, mul_left_comm, zero_mul, mul_zero, add_cancel}
-
-infixl 70 ◌:+◌
-infixl 70 ◌:-◌
-infixl 75 ◌:*◌
-pub data Expr : Type 0 where
-  var : ℕ → Expr
-  :0 : Expr
-  :1 : Expr
-  ◌:+◌ : Expr → Expr → Expr
-  ◌:*◌ : Expr → Expr → Expr
-  minus : Expr → Expr
-
-abbrev pub ◌:-◌ : Expr → Expr → Expr
-a :- b = a :+ minus b
-
--- A monomial is a sorted list of variables, a sum a sorted list of monomials.
-abbrev pub Monomials : Type 0
-Monomials = List (List ℕ)
-
-abbrev pub before : List ℕ → List ℕ → Bool
-before [] ys = true
-before (x ∷ xs) [] = false
-before (x ∷ xs) (y ∷ ys) = cond (ltb x y) true (cond (eqb x y) (before xs ys) false)
-
-abbrev pub put : ℕ → List ℕ → List ℕ
-put x [] = x ∷ []
-put x (y ∷ ys) = cond (ltb y x) (y ∷ put x ys) (x ∷ y ∷ ys)
-
-abbrev pub times : List ℕ → List ℕ → List ℕ
-times [] ys = ys
-times (x ∷ xs) ys = put x (times xs ys)
-
-abbrev pub ins : List ℕ → Monomials → Monomials
-ins m [] = m ∷ []
-ins m (k ∷ ks) = cond (before m k) (m ∷ k ∷ ks) (k ∷ ins m ks)
-
-abbrev pub join : Monomials → Monomials → Monomials
-join [] ks = ks
-join (m ∷ ms) ks = ins m (join ms ks)
-
-abbrev pub scale : List ℕ → Monomials → Monomials
-scale m [] = []
-scale m (k ∷ ks) = ins (times m k) (scale m ks)
-
-abbrev pub cross : Monomials → Monomials → Monomials
-cross [] ks = []
-cross (m ∷ ms) ks = join (scale m ks) (cross ms ks)
-
--- what is added, and what is taken away
-abbrev pub Normal : Type 0
-Normal = Monomials × Monomials
-
-abbrev pub both_plus : Normal → Normal → Normal
-both_plus a b = (join a.0 b.0, join a.1 b.1)
-
-abbrev pub both_times : Normal → Normal → Normal
-both_times a b = (join (cross a.0 b.0) (cross a.1 b.1), join (cross a.0 b.1) (cross a.1 b.0))
-
-abbrev pub turned : Normal → Normal
-turned a = (a.1, a.0)
-
-abbrev pub normal : Expr → Normal
-normal (var n) = ((n ∷ []) ∷ [], [])
-normal :0 = ([], [])
-normal :1 = ([] ∷ [], [])
-normal (a :+ b) = both_plus (normal a) (normal b)
-normal (a :* b) = both_times (normal a) (normal b)
-normal (minus a) = turned (normal a)
-
-abbrev pub Same : Expr → Expr → Type 0
-Same a b = join (normal a).0 (normal b).1 ≡ join (normal b).0 (normal a).1
 
 module _ (R : CommRing) (ρ : ℕ → R.Carrier) where
   open R use {add as ◌+◌, mul as ◌*◌, neg as neg, zero as 𝟘, one as 𝟙}
@@ -83,12 +14,7 @@ module _ (R : CommRing) (ρ : ℕ → R.Carrier) where
   infixl 70 ◌+◌
   infixl 75 ◌*◌
   abbrev pub value : Expr → R.Carrier
-  value (var n) = ρ n
-  value :0 = 𝟘
-  value :1 = 𝟙
-  value (a :+ b) = value a + value b
-  value (a :* b) = value a * value b
-  value (minus a) = neg (value a)
+  value e = written.value R.ops ρ e
 
   abbrev product : List ℕ → R.Carrier
   product [] = 𝟙

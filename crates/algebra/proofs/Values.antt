@@ -16,7 +16,8 @@ use Rattle.algebra.proofs.Lists.{Below-coeff}
 use Rattle.algebra.proofs.Dividing.{divides}
 use Rattle.algebra.proofs.Held.{held_ring}
 use Rattle.algebra.proofs.Quotients.{quotient_laws}
-use Rattle.algebra.proofs.Solver.{◌:+◌, ◌:*◌, minus, :0, :1, var, env, solve, solve2, solve3, solve4}
+use Rattle.algebra.specs.Expression.{◌:+◌, ◌:*◌, minus, :0, :1, var}
+use Rattle.algebra.proofs.Solver.{env, solve, solve2, solve3, solve4}
 
 module _ (R S : CommRing) (F : Hom R S) (x : S.Carrier) where
   open R use {Carrier as C, ops as o}

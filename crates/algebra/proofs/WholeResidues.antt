@@ -11,7 +11,8 @@ use Rattle.algebra.proofs.Integers.{whole_ring}
 use Rattle.algebra.proofs.Residues.{residue_laws}
 use Rattle.algebra.proofs.Held.{same_held, held_ring}
 use Rattle.algebra.proofs.Homs.{map_neg}
-use Rattle.algebra.proofs.Solver.{◌:+◌, ◌:-◌, ◌:*◌, solve4}
+use Rattle.algebra.specs.Expression.{◌:+◌, ◌:-◌, ◌:*◌}
+use Rattle.algebra.proofs.Solver.{solve4}
 
 -- a whole number as a natural one of the same residue modulo t + 1
 spread : ℕ → ℤ → ℕ

@@ -4,6 +4,7 @@ use Rattle.algebra.specs.Ring.{Ops, HeldLaws}
 use Rattle.algebra.specs.Range.{total, adds}
 use Rattle.algebra.specs.Power.{power, geometric, less, Divides}
 use Rattle.algebra.specs.Series.{spread}
+use Rattle.algebra.specs.Expression.{Expr, Same, value}
 use Rattle.algebra.specs.Poly.{all_held, row_held, coeff, SameCoeffs, plus, times, at_power, value_at, degree_of, IsMonic, remainder, quotient_by, IsDivided, modulo}
 
 module _ {C : Type 0} (held : C → Bool) (o : Ops C) where
@@ -57,3 +58,7 @@ module _ {C : Type 0} (held : C → Bool) (o : Ops C) where
   -- the lists of the degree's length are a ring under sum and product modulo g
   abbrev pub QuotientLaw : Type 0
   QuotientLaw = (g : List C) → IsTrue (all_held held g) → IsMonic o g → HeldLaws (row_held held (degree_of o g)) (modulo o g)
+
+  -- expressions with one normal form have one value
+  abbrev pub SolverLaw : Type 0
+  SolverLaw = (at : ℕ → C) → ((n : ℕ) → IsTrue (held (at n))) → (a b : Expr) → Same a b → value o at a ≡ value o at b

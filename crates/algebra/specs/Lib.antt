@@ -8,3 +8,5 @@ pub mod Poly
 pub mod Whole
 pub mod Laws
 pub mod Totals
+pub mod Expression
+pub mod HeldRing

@@ -3,7 +3,8 @@
 ghost use Rattle.std.specs.Prelude.{ℕ, ◌<◌, Bool, ltb};
 ghost use Rattle.algebra.specs.Range.{Monoid, MonoidLaws, counts};
 ghost use Rattle.algebra.specs.Ring.{Ops, RingLaws, HeldLaws, whole_numbers, residues};
-ghost use Rattle.algebra.specs.Laws.{PowerLaw};
+ghost use Rattle.algebra.specs.Laws.{PowerLaw, SolverLaw};
+ghost use Rattle.algebra.specs.HeldRing.{held_ops};
 ghost use Rattle.algebra.specs.Totals.{TotalLaw};
 
 /// Sums of natural numbers are sums over a commutative operation with a unit.
@@ -36,6 +37,17 @@ pub trait AnyRing {
 /// quotient; and `x^m - 1` divides `x^(m n) - 1`.
 pub fn law_powers<R: AnyRing>()
     ensures { PowerLaw R.held R.ops }
+{}
+
+/// The elements that are held are a ring of their own: the laws stand without premises there.
+pub fn law_held_ring<R: AnyRing>()
+    ensures { RingLaws (held_ops R.laws) }
+{}
+
+/// Two expressions with one normal form have equal values, whatever held elements the variables stand for. So a check of
+/// two lists proves an identity of commutative rings.
+pub fn law_solver<R: AnyRing>()
+    ensures { SolverLaw R.held R.ops }
 {}
 
 /// Any commutative operation with a unit. No code computes with it.

@@ -13,7 +13,8 @@ use Rattle.algebra.proofs.Integers.{whole_ring}
 use Rattle.algebra.proofs.SeriesRing.{product_zeros, product_comm}
 use Rattle.algebra.proofs.Degrees.{Below-zeros, Below-sum, Below-scaled, Below-negated, multiple_below}
 use Rattle.algebra.proofs.Polynomials.{poly, same, constant}
-use Rattle.algebra.proofs.Solver.{solve2, ◌:+◌, ◌:-◌}
+use Rattle.algebra.specs.Expression.{◌:+◌, ◌:-◌}
+use Rattle.algebra.proofs.Solver.{solve2}
 use Rattle.cyclotomic.proofs.WholePolys.{WholePoly, whole_polys, indeterminate}
 use Rattle.cyclotomic.proofs.Norms.{Whole, norm, first, Below-first, abs_add, abs_mul}
 use Rattle.cyclotomic.proofs.Modulo.{Alike, Alike_of_path, Alike_sym, Alike_trans, Alike_add, Alike_scale}

@@ -7,7 +7,8 @@ use Rattle.algebra.specs.Range.{total, adds}
 use Rattle.algebra.proofs.Basic.{mul_zero, mul_one}
 use Rattle.algebra.proofs.Homs.{map_adds}
 use Rattle.algebra.proofs.Ranges.{total_cong, total_exchange, total_single, total-mul, mul-total, add_laws}
-use Rattle.algebra.proofs.Solver.{solve3, ◌:*◌}
+use Rattle.algebra.specs.Expression.{◌:*◌}
+use Rattle.algebra.proofs.Solver.{solve3}
 use Rattle.cyclotomic.specs.Trace.{repeated, trace}
 
 module _ (E : CommRing) (F : Hom E E) where

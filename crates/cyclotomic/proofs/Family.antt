@@ -11,7 +11,8 @@ use Rattle.algebra.proofs.Divisors.{divisor_cases, divisor_yes, divisor_no, larg
 use Rattle.algebra.proofs.Euclid.{Euclid, euclid}
 use Rattle.algebra.proofs.Ranges.{total_cong, total_units, total-op, total_split, mul_laws}
 use Rattle.algebra.proofs.Powers.{Divides_trans, Meets_sym, Meets_product, number-mul, product_divides, divides_other, power-mul, geometric_is, power_divides, meets_in_number}
-use Rattle.algebra.proofs.Solver.{solve2, ◌:*◌, ◌:+◌, :0, :1}
+use Rattle.algebra.specs.Expression.{◌:*◌, ◌:+◌, :0, :1}
+use Rattle.algebra.proofs.Solver.{solve2}
 use Rattle.cyclotomic.specs.Family.{part, over_divisors, IsProductAt}
 
 -- what is asked of the monic elements

@@ -13,7 +13,8 @@ use Rattle.algebra.proofs.Powers.{power-mul, unit_cancel}
 use Rattle.algebra.proofs.SeriesRing.{product_zeros}
 use Rattle.algebra.proofs.Degrees.{Below-sum, Below-negated, Below-cons, Below-const, Below-zero, Division, divide, quotient_below}
 use Rattle.algebra.proofs.Evaluate.{horner, horner_more, horner-sum, horner-product, horner_is}
-use Rattle.algebra.proofs.Solver.{solve2, solve3, ◌:*◌, ◌:+◌, ◌:-◌, minus, :0, :1}
+use Rattle.algebra.specs.Expression.{◌:*◌, ◌:+◌, ◌:-◌, minus, :0, :1}
+use Rattle.algebra.proofs.Solver.{solve2, solve3}
 use Rattle.cyclotomic.specs.Roots.{transform}
 
 module _ (R : CommRing) where

@@ -5,7 +5,8 @@ use mathlib.Core.Path.{fun_ext}
 use Rattle.algebra.specs.Ring.{Ops, CommRing, HeldLaws}
 use Rattle.algebra.specs.Hom.{Hom}
 use Rattle.algebra.specs.Range.{total, adds}
-use Rattle.algebra.proofs.Held.{Held, same_held, held_ring}
+use Rattle.algebra.specs.HeldRing.{Held}
+use Rattle.algebra.proofs.Held.{same_held, held_ring}
 use Rattle.algebra.proofs.Homs.{keeps_adds}
 use Rattle.algebra.proofs.HeldLists.{held_preserves}
 use Rattle.cyclotomic.specs.Trace.{repeated, trace}

@@ -11,7 +11,8 @@ use Rattle.algebra.specs.Divisor.{HasInverse, units}
 use Rattle.algebra.specs.Poly.{all_held, value_at, remainder}
 use Rattle.algebra.proofs.Integers.{whole_ring}
 use Rattle.algebra.proofs.Units.{inverse_of_unit}
-use Rattle.algebra.proofs.Held.{Held, same_held, held_ops, held_ring}
+use Rattle.algebra.specs.HeldRing.{Held, held_ops}
+use Rattle.algebra.proofs.Held.{same_held, held_ring}
 use Rattle.algebra.proofs.Homs.{keeps_less, keeps_power, keeps_adds, keeps_number}
 use Rattle.algebra.proofs.Maps.{map_value_at, map_remainder}
 use Rattle.algebra.proofs.HeldLists.{values, values_held, lifted, values-lifted, held_preserves}

@@ -6,7 +6,8 @@ use Rattle.algebra.specs.Hom.{Hom}
 use Rattle.algebra.specs.Power.{less, Divides}
 use Rattle.algebra.proofs.Homs.{map_less}
 use Rattle.algebra.proofs.Powers.{Divides_trans}
-use Rattle.algebra.proofs.Solver.{solve, env, var, solve2, solve3, solve4, ◌:*◌, ◌:+◌, ◌:-◌, minus, :0}
+use Rattle.algebra.specs.Expression.{var, ◌:*◌, ◌:+◌, ◌:-◌, minus, :0}
+use Rattle.algebra.proofs.Solver.{solve, env, solve2, solve3, solve4}
 
 module _ (R : CommRing) (g : R.Carrier) where
   open R use {add as ◌+◌, mul as ◌*◌, neg as neg, zero as 𝟘, one as 𝟙}

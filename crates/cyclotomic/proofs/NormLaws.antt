@@ -11,7 +11,8 @@ use Rattle.algebra.proofs.Powers.{Divides_trans, number-mul}
 use Rattle.algebra.proofs.SeriesRing.{product-const}
 use Rattle.algebra.proofs.Degrees.{Below-zero, Below-tail, Below-cons, Below-sum, Below-scaled, Below-product}
 use Rattle.algebra.proofs.Polynomials.{poly, same, constant, constant_hom}
-use Rattle.algebra.proofs.Solver.{solve, env, var, solve1, solve2, solve4, ◌:*◌, ◌:+◌, ◌:-◌, :0, :1}
+use Rattle.algebra.specs.Expression.{var, ◌:*◌, ◌:+◌, ◌:-◌, :0, :1}
+use Rattle.algebra.proofs.Solver.{solve, env, solve1, solve2, solve4}
 use Rattle.cyclotomic.proofs.WholePolys.{WholePoly, whole_polys, indeterminate, number_is}
 use Rattle.cyclotomic.proofs.Norms.{Whole, norm, norm-sum, norm-scaled, norm-product, first, Below-first, folded, Below-folded, norm-folded, cons_is}
 use Rattle.cyclotomic.proofs.Modulo.{Alike, Alike_of_path, Alike_sym, Alike_trans, Alike_add, Alike_mul, Alike_scale}

@@ -11,7 +11,8 @@ use Rattle.algebra.proofs.Ranges.{total_cong, total_units, total_first, count_la
 use Rattle.algebra.proofs.SeriesRing.{product_head, product_tail, product_zeros, product-const}
 use Rattle.algebra.proofs.Degrees.{Below-zero, Below-tail, Below-cons, Below-zeros}
 use Rattle.algebra.proofs.Polynomials.{poly, same, constant}
-use Rattle.algebra.proofs.Solver.{◌:+◌, ◌:*◌, :0, solve2}
+use Rattle.algebra.specs.Expression.{◌:+◌, ◌:*◌, :0}
+use Rattle.algebra.proofs.Solver.{solve2}
 use Rattle.cyclotomic.proofs.WholePolys.{whole_polys, indeterminate}
 
 pub abs_up : (z : ℤ) → nat_abs z ≡ up z + down z

@@ -19,7 +19,8 @@ use Rattle.algebra.proofs.Powers.{power-mul}
 use Rattle.algebra.proofs.Evaluate.{horner_is}
 use Rattle.algebra.proofs.Lists.{same_list, Below-coeff}
 use Rattle.algebra.proofs.Maps.{map_monic, map_degree_of}
-use Rattle.algebra.proofs.Solver.{solve3, ◌:*◌}
+use Rattle.algebra.specs.Expression.{◌:*◌}
+use Rattle.algebra.proofs.Solver.{solve3}
 use Rattle.algebra.proofs.Values.{value, value_is, value-remainder, value-times, value-plus, value-monomial, value-negated}
 use Rattle.algebra.proofs.Dividing.{length-remainder}
 use Rattle.cyclotomic.specs.Family.{IsProductAt, part, over_divisors}

@@ -15,7 +15,8 @@ use Rattle.algebra.proofs.Spread as over
 use Rattle.algebra.proofs.Lists.{same_list, Below-coeff, coeff-scaled, coeff-at_power}
 use Rattle.algebra.proofs.Dividing.{monic_series, divides, length-remainder}
 use Rattle.algebra.proofs.Quotients.{remainder_small}
-use Rattle.algebra.proofs.Solver.{solve3, ◌:+◌, ◌:-◌}
+use Rattle.algebra.specs.Expression.{◌:+◌, ◌:-◌}
+use Rattle.algebra.proofs.Solver.{solve3}
 use Rattle.cyclotomic.specs.Family.{IsProductAt}
 use Rattle.cyclotomic.specs.Cyclotomic.{phi, degree, R, IsElement, fold, substituted, multiple}
 use Rattle.cyclotomic.proofs.Family.{phi_divides_power}

@@ -12,7 +12,8 @@ use Rattle.algebra.proofs.Units.{unit_cancels}
 use Rattle.algebra.proofs.Euclid.{Euclid, euclid}
 use Rattle.algebra.proofs.Ranges.{total_cong, total_exchange, total_single, total-mul, mul-total, add_laws}
 use Rattle.algebra.proofs.Powers.{power-add, power-mul, power-product, power_one, power_divides, geometric_is, geometric_one, unit_of_divisor, unit_product, unit_cancel}
-use Rattle.algebra.proofs.Solver.{solve1, solve2, solve3, ◌:*◌, ◌:-◌, minus, :0, :1}
+use Rattle.algebra.specs.Expression.{◌:*◌, ◌:-◌, minus, :0, :1}
+use Rattle.algebra.proofs.Solver.{solve1, solve2, solve3}
 use Rattle.cyclotomic.specs.Roots.{IsRoot, transform}
 
 module _ (R : CommRing) where

@@ -18,7 +18,8 @@ use Rattle.algebra.proofs.Spread.{spread_at, spread_other, spread-const, at_powe
 use Rattle.algebra.proofs.Spread as over
 use Rattle.algebra.proofs.Lists.{Below-coeff, length-plus}
 use Rattle.algebra.proofs.Quotients.{quotient_laws}
-use Rattle.algebra.proofs.Solver.{solve2, ◌:*◌, ◌:-◌, :0, :1}
+use Rattle.algebra.specs.Expression.{◌:*◌, ◌:-◌, :0, :1}
+use Rattle.algebra.proofs.Solver.{solve2}
 use Rattle.cyclotomic.specs.Cyclotomic.{phi, R, IsElement, substituted}
 use Rattle.cyclotomic.specs.CyclotomicLaws.{PhiDividesImage, RIsRing, SubstitutionKeepsOperations, SubstitutionsCompose, SubstitutionByResidue, SubstitutionByOne}
 use Rattle.cyclotomic.proofs.WholePolys.{WholePoly, whole_polys, indeterminate}

@@ -5,7 +5,8 @@ use Rattle.algebra.specs.Ring.{Ops, CommRing, HeldLaws}
 use Rattle.algebra.specs.Power.{power}
 use Rattle.algebra.specs.Poly.{all_held, row_held, coeff, SameCoeffs, plus, scaled, times, value_at, monomial, at_power, degree_of, IsMonic, remainder, modulo}
 use Rattle.algebra.proofs.Basic.{zero_mul, add_zero}
-use Rattle.algebra.proofs.Held.{Held, held_ops, held_ring}
+use Rattle.algebra.specs.HeldRing.{Held, held_ops}
+use Rattle.algebra.proofs.Held.{held_ring}
 use Rattle.algebra.proofs.Lists.{coeff-plus, coeff-scaled}
 use Rattle.algebra.proofs.Maps.{map_plus, map_times, map_monomial, map_remainder}
 use Rattle.algebra.proofs.Dividing.{length-remainder}

@@ -6,7 +6,8 @@ use Rattle.std.proofs.lemmas.List.{take_more, take_more_set}
 use Rattle.std.proofs.lemmas.List.Elements.{All-head, All-tail, AllZip-push}
 use Rattle.algebra.specs.Whole.{residue, SameModulo, product_of}
 use Rattle.algebra.proofs.Integers.{whole_ring}
-use Rattle.algebra.proofs.Solver.{◌:+◌, ◌:*◌, :0, :1, solve2, solve4}
+use Rattle.algebra.specs.Expression.{◌:+◌, ◌:*◌, :0, :1}
+use Rattle.algebra.proofs.Solver.{solve2, solve4}
 use Rattle.algebra.proofs.Chinese.{same_each}
 use Rattle.algebra.proofs.WholeResidues.{same_residue}
 use Rattle.mixed_radix.specs.Mixed.{mixed, AreBalanced, AreDigits}

@@ -7,7 +7,8 @@ use Rattle.std.proofs.lemmas.Nat.{mul-mod_second}
 use Rattle.std.proofs.lemmas.List.{drop_more, drop_all}
 use Rattle.algebra.specs.Whole.{residue, product_of}
 use Rattle.algebra.proofs.Integers.{whole_ring}
-use Rattle.algebra.proofs.Solver.{◌:+◌, ◌:-◌, ◌:*◌, :0, :1, solve1, solve2, solve4}
+use Rattle.algebra.specs.Expression.{◌:+◌, ◌:-◌, ◌:*◌, :0, :1}
+use Rattle.algebra.proofs.Solver.{solve1, solve2, solve4}
 use Rattle.algebra.proofs.WholeResidues.{residue_lt, residue-add, residue-mul, residue-neg}
 use Rattle.mixed_radix.specs.Mixed.{mixed}
 

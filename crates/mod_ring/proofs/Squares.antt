@@ -2,7 +2,8 @@
 use Rattle.std.proofs.Common.{◌≡◌, ℕ, zero, suc, ◌+◌, Bool, IsTrue, refl, ap, sym, ◌∙◌}
 use Rattle.algebra.specs.Ring.{Ops, HeldLaws}
 use Rattle.algebra.specs.Power.{power}
-use Rattle.algebra.proofs.Held.{held_ops, held_ring}
+use Rattle.algebra.specs.HeldRing.{held_ops}
+use Rattle.algebra.proofs.Held.{held_ring}
 use Rattle.algebra.proofs.Powers.{power-add}
 
 module _ {V : Type 0} {held : V → Bool} {o : Ops V} (L : HeldLaws held o) where
