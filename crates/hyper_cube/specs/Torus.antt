@@ -1,6 +1,6 @@
 -- The indices of the slots: a torus D_1 x .. x D_k, numbered row-major, the last dimension fastest; and the units modulo m
 -- that stand at them.
-use Rattle.std.specs.Prelude.{◌≡◌, ℕ, zero, suc, ◌+◌, ◌*◌, ◌/◌, ◌%◌, ◌^◌, Bool, cond, eqb, List, [], ◌∷◌, map, get_or}
+use Rattle.std.specs.Prelude.{◌≡◌, ℕ, suc, ◌+◌, ◌*◌, ◌/◌, ◌%◌, ◌^◌, Bool, cond, eqb, List, [], ◌∷◌, map, get_or}
 use Rattle.algebra.specs.Whole.{below}
 
 pub record Dimension : Type 0 where

@@ -1,0 +1,13 @@
+pub mod Axed
+pub mod Counting
+pub mod Divisions
+pub mod Indices
+pub mod Least
+pub mod Located
+pub mod Making
+pub mod Numbering
+pub mod Pairs
+pub mod Pigeons
+pub mod Refusals
+pub mod Shapes
+pub mod Tabled
