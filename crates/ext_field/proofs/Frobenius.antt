@@ -1,5 +1,5 @@
 -- The map that takes X to X^p, by powers of X modulo the factor.
-use Rattle.std.proofs.Common.{◌≡◌, ℕ, suc, ◌-◌, IsTrue, List, map, ap, sym, ◌∙◌, arith}
+use Rattle.std.proofs.Common.{◌≡◌, ℕ, suc, ◌-◌, List, map, ap, sym, ◌∙◌, arith}
 use Rattle.algebra.specs.Ring.{residues}
 use Rattle.algebra.specs.Power.{power}
 use Rattle.algebra.specs.Poly.{value_at, at_power, remainder}

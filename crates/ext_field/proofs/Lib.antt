@@ -4,3 +4,7 @@ pub mod Reduced
 pub mod Rows
 pub mod Frobenius
 pub mod Substitution
+pub mod ElementValues
+pub mod FrobeniusMap
+pub mod Duals
+pub mod Images

@@ -5,10 +5,10 @@ use Rattle.std.specs.List.{All}
 use Rattle.std.proofs.lemmas.List.{map-id, map-append, take_more}
 use Rattle.std.proofs.Math.Nat.{mod-eq_of_lt}
 use Rattle.algebra.specs.Ring.{residues}
-use Rattle.algebra.specs.Poly.{all_held, row_held, remainder, modulo}
+use Rattle.algebra.specs.Poly.{all_held, remainder}
 use Rattle.algebra.proofs.HeldLists.{all_from}
 use Rattle.mod_ring.specs.Laws.{word_laws}
-use Rattle.ext_field.specs.Element.{Extension, IsMonicFactor, IsElement, is_element, eta, number}
+use Rattle.ext_field.specs.Element.{Extension, IsMonicFactor, IsElement, is_element, eta}
 use Rattle.ext_field.specs.Laws.{below_held, factor_held, factor_monic}
 use Rattle.ext_field.proofs.Substitution.{row}
 

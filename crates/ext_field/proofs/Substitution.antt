@@ -1,5 +1,5 @@
 -- Modulo g, a(X^k) is the value of a at the k-th power of X.
-use Rattle.std.proofs.Common.{◌≡◌, ℕ, zero, suc, ◌-◌, ◌<◌, Bool, true, IsTrue, List, [], ◌∷◌, ◌++◌, length, map, replicate, refl, ap, ap₂, sym, ◌∙◌, eqb, eq-eqb, arith}
+use Rattle.std.proofs.Common.{◌≡◌, ℕ, zero, suc, ◌-◌, Bool, true, IsTrue, List, [], ◌∷◌, ◌++◌, length, map, replicate, refl, ap, ap₂, sym, ◌∙◌, eqb, eq-eqb, arith}
 use Rattle.std.proofs.lemmas.Bool.{and_parts, and_from}
 use Rattle.algebra.specs.Ring.{Ops, CommRing, HeldLaws}
 use Rattle.algebra.specs.Power.{power}
@@ -8,7 +8,7 @@ use Rattle.algebra.proofs.Basic.{zero_mul, add_zero}
 use Rattle.algebra.specs.HeldRing.{Held, held_ops}
 use Rattle.algebra.proofs.Held.{held_ring}
 use Rattle.algebra.proofs.Lists.{coeff-plus, coeff-scaled}
-use Rattle.algebra.proofs.Maps.{map_plus, map_times, map_monomial, map_remainder}
+use Rattle.algebra.proofs.Maps.{map_plus, map_times, map_remainder}
 use Rattle.algebra.proofs.Dividing.{length-remainder}
 use Rattle.algebra.proofs.Quotients.{remainder_same, remainder-plus, remainder-product}
 use Rattle.algebra.proofs.HeldLists.{values, each_list, held_preserves, at_power_held, remainder_held}

@@ -1,2 +1,4 @@
 pub mod Element
 pub mod Laws
+pub mod FrobeniusLaw
+pub mod Checks

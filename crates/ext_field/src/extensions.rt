@@ -79,6 +79,15 @@ impl Ext {
         Ok(Ext { base, image })
     }
 
+    /// The same extension once more.
+    pub fn copy(&self, alloc: Global) -> Result<Ext, AllocError>
+        ensures { IfOk result (λ f. f ≡ self.now) }
+    {
+        let base = Remainders::new(alloc, self.p(), self.factor())?;
+        let image = self.image.copy(alloc)?;
+        Ok(Ext { base, image })
+    }
+
     /// The modulus p.
     pub fn p(&self) -> u64
         ensures value { result ≡ self.now.p }

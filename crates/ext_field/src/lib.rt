@@ -8,7 +8,8 @@ mod extensions;
 mod laws;
 mod remainder_ring;
 mod remainders;
+mod traces;
 
 pub use elements::ExtElem;
 pub use extensions::{Ext, ExtFault};
-pub use laws::{law_elements, law_frob};
+pub use laws::{law_checks, law_elements, law_frob, law_frobenius_map};

@@ -1,5 +1,5 @@
 use Rattle.std.proofs.Common.{arith, sym, subst}
-use Rattle.ext_field.specs.Element.{Extension, IsMonicFactor, IsExtension}
+use Rattle.ext_field.specs.Element.{Extension, IsMonicFactor}
 use Rattle.ext_field.proofs.Making.{never, image_is, frobenius, zero_value}
 use Rattle.ext_field.proofs.extensions.Ext.new.Goals as goal
 
