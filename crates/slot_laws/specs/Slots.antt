@@ -1,6 +1,5 @@
 -- The slots of a whole polynomial, and the polynomial that has given slots.
-use Rattle.std.specs.Prelude.{◌≡◌, ℕ, ◌-◌, ◌*◌, ◌%◌, eqb, List, map, get_or, ℤ, pos}
-use Rattle.algebra.specs.Ring.{whole_numbers}
+use Rattle.std.specs.Prelude.{ℕ, ◌-◌, ◌*◌, ◌%◌, eqb, List, map, get_or, ℤ, pos}
 use Rattle.algebra.specs.Power.{power}
 use Rattle.algebra.specs.Poly.{value_at, sum}
 use Rattle.algebra.specs.Whole.{below, residue, balanced}

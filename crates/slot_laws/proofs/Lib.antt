@@ -1,0 +1,10 @@
+pub mod WholeValue
+pub mod Roots
+pub mod Places
+pub mod SlotMaps
+pub mod Decoding
+pub mod Encoding
+pub mod Tests
+pub mod DecodeSums
+pub mod FoldSums
+pub mod EncodeSums
