@@ -1,0 +1,10 @@
+pub mod Firsts
+pub mod TwoPowers
+pub mod EuclidSteps
+pub mod FirstFaults
+pub mod Lists
+pub mod Turned
+pub mod Accepting
+pub mod Omega
+pub mod Shapes
+pub mod Bases

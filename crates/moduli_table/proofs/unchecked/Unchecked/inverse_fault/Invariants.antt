@@ -1,0 +1,8 @@
+use Rattle.std.proofs.Common.{◌≡◌, None}
+use Rattle.moduli_table.specs.First.{first_below}
+use Rattle.moduli_table.specs.Checks.{inverse_fault}
+use Rattle.moduli_table.specs.Inside.{chain_of}
+use Rattle.moduli_table.proofs.unchecked.Unchecked.inverse_fault.Given as goal
+
+abbrev pub invariant-loop-i : goal.invariant-loop-i
+invariant-loop-i l = first_below l.i (inverse_fault (chain_of l.self) l.j) ≡ None

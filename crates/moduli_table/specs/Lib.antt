@@ -1,0 +1,12 @@
+pub mod First
+pub mod Chain
+pub mod Checks
+pub mod Accepted
+pub mod Search
+pub mod Inside
+pub use Rattle.algebra.specs.Divisor
+pub use Rattle.algebra.specs.Power
+pub use Rattle.algebra.specs.Range
+pub use Rattle.algebra.specs.Ring
+pub use Rattle.cyclotomic.specs.RootLaws
+pub use Rattle.mod_ring.specs.Zq
