@@ -1,5 +1,5 @@
 -- What an instruction makes of arrays: for each index e, y[e] is a formula in indices and elements.
-use Rattle.std.specs.Prelude.{ℕ, ◌+◌, ◌-◌, ◌*◌, ◌/◌, ◌%◌, List, [], get_or, set}
+use Rattle.std.specs.Prelude.{ℕ, ◌+◌, ◌-◌, ◌*◌, ◌/◌, ◌%◌, [], get_or, set}
 use Rattle.algebra.specs.Power.{less}
 use Rattle.hyper_cube.specs.Torus.{Torus, size, T_of, located}
 use Rattle.ext_field.specs.Element.{Extension, elements, frob_times}
