@@ -4,3 +4,16 @@ pub mod ProductSteps
 pub mod ListSteps
 pub mod DivisionSteps
 pub mod RowSteps
+pub mod PrimeLaw
+pub mod PrimeFacts
+pub mod StrideLaw
+pub mod StrideSteps
+pub mod Shifts
+pub mod Folding
+pub mod PassSteps
+pub mod LargeSteps
+pub mod MemberSteps
+pub mod FactorSteps
+pub mod PowerSteps
+pub mod WordSteps
+pub mod CycloSteps

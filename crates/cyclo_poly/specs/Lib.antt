@@ -1,3 +1,10 @@
 pub mod Division
+pub mod Kept
+pub mod Primes
+pub mod Strides
+pub mod Tall
 pub use Rattle.mod_ring.specs.Ring
 pub use Rattle.mod_ring.specs.Poly
+pub use Rattle.mod_ring.specs.Zq
+pub use Rattle.cyclotomic.specs.Cyclotomic
+pub use Rattle.cyclotomic.specs.Norm

@@ -40,6 +40,13 @@ impl ExtElem {
         self.poly.coeffs[i as usize]
     }
 
+    /// The coefficients, the constant term first.
+    pub fn coeffs(&self) -> &[u64]
+        ensures { result.now ≡ self.now }
+    {
+        &self.poly.coeffs
+    }
+
     /// The same element once more.
     pub fn copy(&self, alloc: Global) -> Result<ExtElem, AllocError>
         ensures { IfOk result (λ r. r ≡ self.now) }

@@ -1,2 +1,4 @@
 pub mod Arrays
 pub mod Instructions
+pub mod Operations
+pub mod SlotsText

@@ -14,11 +14,11 @@ pub struct SlotArray {
 }
 
 impl Model for SlotArray {
-    ghost use Rattle.std.specs.Prelude.{ℕ, List, map};
+    ghost use Rattle.std.specs.Prelude.{ℕ, List};
 
     ghost Value = { List (List ℕ) };
 
-    ghost view = { λ x. map (λ a. a) x.elems.items };
+    ghost view = { λ x. x.elems.items };
 }
 
 impl SlotArray {

@@ -1,0 +1,5 @@
+pub mod Filled
+pub mod Formulas
+pub mod ReadLines
+pub mod RoundTrip
+pub mod TextLaws
