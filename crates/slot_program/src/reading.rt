@@ -22,7 +22,7 @@ const MOST_LINES: usize = 100_000;
 pub enum ProgramFault {
     /// The line with this number, from 1, is the first that breaks a rule. It is one more than there are lines where the
     /// output is missing, and 100,001 where there are more lines than 100,000.
-    Bad(u64),
+    Bad(u32),
     /// There is no memory left.
     Memory,
 }
@@ -60,7 +60,7 @@ fn program_of(
     cube: &Cube,
     ext: &Ext,
     bytes: &[u8],
-) -> Result<Result<Program, u64>, AllocError>
+) -> Result<Result<Program, u32>, AllocError>
     ensures { IfOk result (λ found. found ≡ program_of ext.now cube.now bytes.now) }
 {
     let lines = line_text::lines(alloc, bytes)?;
@@ -70,21 +70,21 @@ fn program_of(
     };
     for (i, line) in lines.iter().enumerate() {
         if i >= MOST_LINES {
-            return Ok(Err(i as u64 + 1));
+            return Ok(Err(i as u32 + 1));
         }
         let words = line_text::words(alloc, line.as_slice())?;
         if is_skipped(words.as_slice()) {
             continue;
         }
         let Some(made) = instruction_in(alloc, &known, ext, cube, words.as_slice())? else {
-            return Ok(Err(i as u64 + 1));
+            return Ok(Err(i as u32 + 1));
         };
         add(alloc, &mut known, i as u32 + 1, made)?;
     }
     if has_output(known.steps.as_slice()) {
         Ok(Ok(Program { steps: known.steps }))
     } else {
-        Ok(Err(lines.len() as u64 + 1))
+        Ok(Err(lines.len() as u32 + 1))
     }
 }
 

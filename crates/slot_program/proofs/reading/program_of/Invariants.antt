@@ -8,3 +8,4 @@ invariant-loop-i l =
     (steps_from l.ext l.cube (naming l.known.names) l.known.steps.items (l.i + 1) (map (λ line. line.items) (drop l.i l.line-items))
     ≡ steps_from l.ext l.cube no_names [] 1 (map (λ line. line.items) l.line-items))
     × (length l.known.steps.items ≤ l.i)
+    × (l.i ≤ 100000)

@@ -1,0 +1,8 @@
+use Rattle.std.proofs.Common.{◌≡◌, ℕ, ◌+◌, ◌*◌, ◌%◌, ◌<◌, get_or}
+use Rattle.bluestein.proofs.rows.finish.Given as goal
+
+abbrev pub invariant-loop-i : goal.invariant-loop-i
+invariant-loop-i l = record {
+  done : (k : ℕ) → k < l.i → get_or l.out k 0 ≡ (get_or l.factors k 0 * (get_or l.lo k 0 + get_or l.hi k 0)) % l.q;
+  small : (k : ℕ) → k < l.i → get_or l.out k 0 < l.q;
+}

@@ -1,0 +1,12 @@
+pub mod Plan
+pub mod Chirps
+pub mod Fields
+pub mod RoomFields
+pub use Rattle.algebra.specs.Ring
+pub use Rattle.algebra.specs.Power
+pub use Rattle.algebra.specs.Poly
+pub use Rattle.algebra.specs.Whole
+pub use Rattle.cyclotomic.specs.RootLaws
+pub use Rattle.mod_ring.specs.Zq
+pub use Rattle.two_power.specs.Tree
+pub use Rattle.two_power.specs.Convolution

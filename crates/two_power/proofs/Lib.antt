@@ -1,0 +1,13 @@
+pub mod Congruent
+pub mod Values
+pub mod Trees
+pub mod Passed
+pub mod Loops
+pub mod Descent
+pub mod Ascent
+pub mod Round
+pub mod Growth
+pub mod Rows
+pub mod Steps
+pub mod Product
+pub mod Made
