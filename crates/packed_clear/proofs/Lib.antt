@@ -1,0 +1,2 @@
+mod PackedSteps
+mod RunSteps

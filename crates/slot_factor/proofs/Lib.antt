@@ -1,0 +1,9 @@
+pub mod RowSteps
+pub mod PowerSteps
+pub mod UnitSteps
+pub mod CheckSteps
+pub mod FaultSteps
+pub mod PackedSteps
+pub mod CubeJoin
+pub mod DecodeSteps
+pub mod EncodeSteps

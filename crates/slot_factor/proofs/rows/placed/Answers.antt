@@ -1,0 +1,36 @@
+use Rattle.std.proofs.Common.{◌<◌, ◌*◌, ◌%◌, map, pos, refl, ap, ◌∙◌, arith}
+use Rattle.std.proofs.Math.Nat.{mod-lt}
+use Rattle.std.proofs.lemmas.List.{length-set}
+use Rattle.std.proofs.lemmas.List.Elements.{All-set}
+use Rattle.algebra.specs.Whole.{residue}
+use Rattle.cyclotomic.specs.Cyclotomic.{fold}
+use Rattle.cyclotomic.proofs.RingR.{fold_element}
+use Rattle.mod_ring.specs.Zq.{modulus_of}
+use Rattle.slot_laws.proofs.EncodeSums.{places_start}
+use Rattle.slot_laws.proofs.FoldSums.{place_term}
+use Rattle.slot_factor.proofs.RowSteps.{place_more, places_whole}
+use Rattle.slot_factor.proofs.rows.placed.Goals as goal
+
+pub loop-i-init : goal.loop-i-init
+loop-i-init c =
+    let S = fold c.args.m (map pos c.args.sums.items) in
+    record {
+      value = places_start (modulus_of c.args.zq.now) c.args.m (omega (arith, c.args.zq.now.in_range)) c.requires.m_low c.args.sums.items S (place_term c.args.m c.args.k (map pos c.args.a.now)) (fold_element c.args.m (map pos c.args.sums.items)) refl;
+      long = c.requires.long;
+      below = c.requires.below;
+    }
+
+pub loop-i-preserved : goal.loop-i-preserved
+loop-i-preserved c =
+    let q = modulus_of c.args.zq.now in
+    let at = (c.loop-i.i * c.args.k) % c.args.m in
+    record {
+      value = place_more q c.args.m (omega (arith, c.args.zq.now.in_range)) c.requires.m_low c.loop-i.sums.items (fold c.args.m (map pos c.args.sums.items)) c.args.k c.args.a.now c.loop-i.i c.add_word.result c.index.result.now _ c.loop-i.invariant.long (omega (arith, c.loop-i-test.true)) c.index.ensures (mod-lt (c.loop-i.i * c.args.k) c.requires.m_low) c.add_word.ensures.value c.loop-i.invariant.value;
+      long = length-set c.loop-i.sums.items at c.add_word.result ∙ c.loop-i.invariant.long;
+      below = All-set (λ v. v < q) c.loop-i.sums.items at c.add_word.result c.add_word.ensures.below c.loop-i.invariant.below;
+    }
+
+pub returns-clause-value : goal.returns-clause-value
+returns-clause-value c =
+    let q = modulus_of c.args.zq.now in
+    c.loop-i.invariant.value ∙ ap (map (residue q)) (places_whole q c.args.m c.requires.m_low (fold c.args.m (map pos c.args.sums.items)) c.args.k c.requires.k_low c.args.a.now c.loop-i.i _ (omega (arith, c.loop-i-test.false, c.loop-i.auto.i-end)) refl)

@@ -1,0 +1,4 @@
+pub mod Packing
+pub mod Checks
+pub mod Tables
+pub mod Kept

@@ -1,0 +1,135 @@
+//! The idempotent of slot 0, and products and substitutions modulo Phi_m and p.
+ghost use Rattle.std.specs.Prelude.{◌≡◌, ◌+◌, ◌*◌, ◌%◌, ◌<◌, ◌≤◌, ◌^◌, All, IfOk, length, map, pos};
+ghost use Rattle.algebra.specs.Whole.{residue};
+ghost use Rattle.mod_ring.specs.Zq.{modulus_of};
+ghost use Rattle.cyclotomic.specs.Cyclotomic.{R, substituted};
+ghost use Rattle.hyper_cube.specs.Torus.{slot_count, T_of, index};
+ghost use Rattle.hyper_cube.specs.Tables.{IsFilled};
+ghost use Rattle.ext_field.specs.Element.{IsExtension};
+ghost use Rattle.slot_laws.specs.Slots.{inverse_modulo, eps};
+ghost use Rattle.slot_laws.specs.Checks.{IsPhiFactor, residue_row, eps_sum};
+ghost use Rattle.slot_factor.specs.Tables.{ArePowers};
+
+use crate::powers::inverse;
+use crate::rows::{folded, placed, product};
+use cyclo_poly::Cyclo;
+use ext_field::{Ext, ExtElem};
+use hyper_cube::Cube;
+use mod_ring::Zq;
+use std::alloc::{AllocError, Global};
+
+/// The residues of a(X^k).
+pub(crate) fn substituted(
+    alloc: Global,
+    cyclo: &Cyclo,
+    zq: &Zq,
+    k: u32,
+    a: &[u64],
+) -> Result<Vec<u64>, AllocError>
+    requires k_low { 0 < k }
+    requires k_high { k ≤ 65536 }
+    requires few { length a.now ≤ 131074 }
+    requires below { All (λ v. v < modulus_of zq.now) a.now }
+    ensures value { IfOk result (λ r. r.items ≡ map (residue (modulus_of zq.now)) (substituted cyclo.now k (map pos a.now))) }
+    ensures below { IfOk result (λ r. All (λ v. v < modulus_of zq.now) r.items) }
+{
+    let m = cyclo.m() as usize;
+    let zeros = vec![in alloc; 0; m]?;
+    let sums = placed(zq, m, k as usize, a, zeros);
+    let rest = folded(cyclo, zq, sums);
+    Ok(rest)
+}
+
+/// The residues of a product.
+pub(crate) fn multiplied(
+    alloc: Global,
+    cyclo: &Cyclo,
+    zq: &Zq,
+    a: &[u64],
+    b: &[u64],
+) -> Result<Vec<u64>, AllocError>
+    requires m_low { 0 < cyclo.now }
+    requires p_high { modulus_of zq.now < 2 ^ 17 }
+    requires a_some { 0 < length a.now }
+    requires b_some { 0 < length b.now }
+    requires a_few { length a.now ≤ 65537 }
+    requires b_few { length b.now ≤ 65537 }
+    requires a_below { All (λ v. v < modulus_of zq.now) a.now }
+    requires b_below { All (λ v. v < modulus_of zq.now) b.now }
+    ensures value { IfOk result (λ r. r.items
+        ≡ map (residue (modulus_of zq.now)) ((R cyclo.now).mul (map pos a.now) (map pos b.now))) }
+    ensures below { IfOk result (λ r. All (λ v. v < modulus_of zq.now) r.items) }
+{
+    let product = product(alloc, zq, a, b)?;
+    let rest = substituted(alloc, cyclo, zq, 1, &product)?;
+    Ok(rest)
+}
+
+/// The residues of the idempotent.
+pub(crate) fn idempotent(
+    alloc: Global,
+    cyclo: &Cyclo,
+    cube: &Cube,
+    zq: &Zq,
+    ext: &Ext,
+    powers: &[ExtElem],
+) -> Result<Vec<u64>, AllocError>
+    requires valid { IsExtension ext.now }
+    requires same_m { cyclo.now ≡ cube.now.m }
+    requires same_q { modulus_of zq.now ≡ ext.now.p }
+    requires powers { ArePowers ext.now cube.now.m powers.now }
+    requires root { IsPhiFactor ext.now cube.now }
+    ensures value { IfOk result (λ r. r.items ≡ residue_row ext.now cube.now (eps ext.now cube.now)) }
+{
+    let m = cube.m();
+    let unit = inverse(ext.p() as u32, m) as u64 % ext.p();
+    let mut values = Vec::new(alloc);
+    for i in 0..m {
+        let trace = ext.trace(alloc, &powers[((m - i) % m) as usize])?;
+        let value = zq.mul_word(unit, trace.coeff(0));
+        values.push(value)?;
+    }
+    let rest = folded(cyclo, zq, values);
+    Ok(rest)
+}
+
+/// For each slot e the inverse of T(e) modulo m.
+pub(crate) fn inverses(alloc: Global, cube: &Cube) -> Result<Vec<u32>, AllocError>
+    ensures { IfOk result (λ r. IsFilled (λ j. inverse_modulo cube.now.m (T_of cube.now (index cube.now.dimensions j)))
+        (slot_count cube.now) r.items) }
+{
+    let mut list = Vec::new(alloc);
+    for e in 0..cube.slot_count() {
+        let value = inverse(cube.m(), cube.element(e));
+        list.push(value)?;
+    }
+    Ok(list)
+}
+
+/// The sum over the slots e of eps(X^k), k the inverse of T(e) modulo m.
+pub(crate) fn total(
+    alloc: Global,
+    cyclo: &Cyclo,
+    cube: &Cube,
+    zq: &Zq,
+    ext: &Ext,
+    inverses: &[u32],
+    unit: &[u64],
+) -> Result<Vec<u64>, AllocError>
+    requires same_m { cyclo.now ≡ cube.now.m }
+    requires same_q { modulus_of zq.now ≡ ext.now.p }
+    requires inverses { IsFilled (λ j. inverse_modulo cube.now.m (T_of cube.now (index cube.now.dimensions j)))
+        (slot_count cube.now) inverses.now }
+    requires unit { unit.now ≡ residue_row ext.now cube.now (eps ext.now cube.now) }
+    requires few { length unit.now ≤ 65536 }
+    ensures value { IfOk result (λ r. r.items ≡ residue_row ext.now cube.now (eps_sum ext.now cube.now)) }
+{
+    let _p = ext.p();
+    let m = cyclo.m() as usize;
+    let mut sums = vec![in alloc; 0; m]?;
+    for e in 0..cube.slot_count() {
+        sums = placed(zq, m, inverses[e as usize] as usize, unit, sums);
+    }
+    let rest = folded(cyclo, zq, sums);
+    Ok(rest)
+}

@@ -1,0 +1,6 @@
+pub mod Setting
+pub mod Faults
+pub mod Accepted
+pub mod Summary
+pub mod Sizes
+pub mod Shown
