@@ -2,8 +2,8 @@ use Rattle.std.proofs.Common.{◌≡◌, ℕ, ◌-◌, ◌≤◌, Bool, true, fa
 use Rattle.std.proofs.lemmas.List.{take_all, take_at}
 use Rattle.shelf_core.specs.Outcomes.{PutsFront}
 use Rattle.helib_cli.specs.declared.cause.Cause.{Cause}
-use Rattle.helib_cli.specs.declared.cause.Cause.TheVariants.{Words, NoFile, ShelfFault, SinkFault, Memory, NotBuilt}
-use Rattle.helib_cli.specs.Arrays.{Array}
+use Rattle.helib_cli.specs.declared.cause.Cause.TheVariants.{Words, NoFile, BadTable, BadSlots, BadProgram, Arity, ShelfFault, SinkFault, Memory}
+use Rattle.slot_array.specs.Arrays.{Array}
 use Rattle.helib_cli.specs.Clauses.{is_sink_fault, GoesOn, IsOfReading, IsOneFault}
 use Rattle.helib_cli.specs.declared.command.Command.{Command}
 use Rattle.helib_cli.specs.declared.effect.Effect.{Effect}
@@ -18,7 +18,10 @@ cause_facts (NoFile file) is = (refl, tt)
 cause_facts (ShelfFault faults) is = (refl, is)
 cause_facts (SinkFault faults) is = absurd is
 cause_facts Memory is = (refl, tt)
-cause_facts (NotBuilt file) is = (refl, tt)
+cause_facts (BadTable fault) is = (refl, is)
+cause_facts (BadSlots line) is = (refl, tt)
+cause_facts (BadProgram line) is = (refl, tt)
+cause_facts (Arity given named) is = (refl, tt)
 
 -- bytes go on where more are added, or none
 pub goes_on : (old new piece : List ℕ) → new ≡ old ++ piece → GoesOn old new

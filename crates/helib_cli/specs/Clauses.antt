@@ -3,38 +3,27 @@ use Rattle.std.specs.Prelude.{◌≡◌, ℕ, Bool, true, false, ◌||◌, ◌==
 use Rattle.shelf_core.specs.Files.{File}
 use Rattle.shelf_core.specs.Outcomes.{PutsFront, Rises}
 use Rattle.helib_cli.specs.declared.cause.Cause.{Cause}
-use Rattle.helib_cli.specs.declared.cause.Cause.TheVariants.{Words, NoFile, ShelfFault, SinkFault, Memory, NotBuilt}
+use Rattle.helib_cli.specs.declared.cause.Cause.TheVariants.{BadTable, ShelfFault, SinkFault, Memory}
 use Rattle.helib_cli.specs.declared.cause.Status.{Status}
 use Rattle.helib_cli.specs.declared.cause.Status.TheVariants.{Done, Stopped}
+use Rattle.table_file.specs.Faults.{is_memory as is_want}
 use Rattle.helib_cli.specs.declared.effect.Effect.{Effect}
 use Rattle.helib_cli.specs.declared.effect.Effect.TheVariants.{Prints}
 
 -- a fault of the shelf, of one failed answer
 abbrev pub is_shelf_fault : Cause → Bool
 is_shelf_fault (ShelfFault faults) = faults == 1
-is_shelf_fault (SinkFault faults) = false
-is_shelf_fault Words = false
-is_shelf_fault (NoFile file) = false
-is_shelf_fault Memory = false
-is_shelf_fault (NotBuilt file) = false
+is_shelf_fault _ = false
 
 -- a fault of the sink, of one failed answer
 abbrev pub is_sink_fault : Cause → Bool
 is_sink_fault (SinkFault faults) = faults == 1
-is_sink_fault (ShelfFault faults) = false
-is_sink_fault Words = false
-is_sink_fault (NoFile file) = false
-is_sink_fault Memory = false
-is_sink_fault (NotBuilt file) = false
+is_sink_fault _ = false
 
 -- want of memory
 abbrev pub is_memory : Cause → Bool
 is_memory Memory = true
-is_memory (ShelfFault faults) = false
-is_memory (SinkFault faults) = false
-is_memory Words = false
-is_memory (NoFile file) = false
-is_memory (NotBuilt file) = false
+is_memory _ = false
 
 -- a cause that neither the words nor the files decide
 abbrev pub is_excused : Cause → Bool
@@ -55,23 +44,19 @@ abbrev pub Gives : {X Y : Type 0} → (X → Y) → Result X Cause → Result Y 
 Gives view (Ok x) on = on ≡ Ok (view x)
 Gives view (Err cause) on = is_excused cause ≡ false → on ≡ Err cause
 
--- each fault that stops a line is of one failed answer
+-- each fault that stops a line is of one failed answer, and that of a table is no want of memory
 abbrev pub IsOneFault : Cause → Type 0
 IsOneFault (ShelfFault faults) = faults ≡ 1
 IsOneFault (SinkFault faults) = faults ≡ 1
-IsOneFault Words = Unit {0}
-IsOneFault (NoFile file) = Unit {0}
-IsOneFault Memory = Unit {0}
-IsOneFault (NotBuilt file) = Unit {0}
+IsOneFault (BadTable fault) = is_want fault ≡ false
+IsOneFault _ = Unit {0}
 
 -- the same, before anything is printed
 abbrev pub IsOfReading : Cause → Type 0
 IsOfReading (ShelfFault faults) = faults ≡ 1
 IsOfReading (SinkFault faults) = ⊥
-IsOfReading Words = Unit {0}
-IsOfReading (NoFile file) = Unit {0}
-IsOfReading Memory = Unit {0}
-IsOfReading (NotBuilt file) = Unit {0}
+IsOfReading (BadTable fault) = is_want fault ≡ false
+IsOfReading _ = Unit {0}
 
 -- how a session ends, without its line
 abbrev pub outcome_of : Status → Result Unit Cause

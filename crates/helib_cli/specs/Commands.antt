@@ -3,7 +3,7 @@ use Rattle.std.specs.Prelude.{ℕ, List, [], ◌∷◌, Option, Some, None, byte
 use Rattle.std.specs.Prelude.{option_and_then}
 use Rattle.line_text.specs.Names.{name_of}
 use Rattle.helib_cli.specs.declared.command.Command.{Command}
-use Rattle.helib_cli.specs.declared.command.Command.TheVariants.{Clear}
+use Rattle.helib_cli.specs.declared.command.Command.TheVariants.{Clear, Summarise}
 
 infixl 10 ◌>>=◌
 abbrev ◌>>=◌ : {A B : Type 0} → Option A → (A → Option B) → Option B
@@ -27,7 +27,16 @@ clear_of (table ∷ program ∷ input ∷ inputs) = do
   Some (Clear t p xs)
 clear_of _ = None
 
+-- `table T`, behind its first word
+unfoldable pub summarise_of : List (List ℕ) → Option Command
+summarise_of (table ∷ []) = do
+  t ← name_of table
+  Some (Summarise t)
+summarise_of _ = None
+
 -- the command that the words of a line ask for, if they are in a command's grammar
 unfoldable pub command_of : List (List ℕ) → Option Command
 command_of [] = None
-command_of (word ∷ words) = if bytes_eq word (codes "clear") then clear_of words else None
+command_of (word ∷ words) =
+    if bytes_eq word (codes "clear") then clear_of words
+    else (if bytes_eq word (codes "table") then summarise_of words else None)

@@ -1,13 +1,4 @@
-pub mod Elements
-pub mod Torus
-pub mod Arrays
-pub mod Meaning
-pub mod Table
 pub mod Commands
-pub mod Program
-pub mod ProgramText
-pub mod SlotsText
-pub mod Document
 pub mod Machine
 pub mod Clauses
 pub mod Plain

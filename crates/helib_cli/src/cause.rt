@@ -1,6 +1,7 @@
 //! How a session ends, and why it stops.
 use line_text::FileName;
 use std::alloc::{AllocError, AllocFailed};
+use table_file::TableFault;
 
 /// Why a line stops.
 #[derive(Debug, Drop)]
@@ -9,14 +10,20 @@ pub enum Cause {
     Words,
     /// The shelf has no file of this name.
     NoFile { file: FileName },
+    /// The table fails this check, which is never `Memory`.
+    BadTable { fault: TableFault },
+    /// The text of an array breaks its grammar at this line.
+    BadSlots { line: u32 },
+    /// The text of a program breaks its grammar at this line.
+    BadProgram { line: u32 },
+    /// The program names another number of inputs than are given.
+    Arity { given: u64, named: u32 },
     /// The shelf failed, in this many answers of the line: 1.
     ShelfFault { faults: u32 },
     /// The sink failed, in this many answers of the line: 1.
     SinkFault { faults: u32 },
     /// There was not memory enough.
     Memory,
-    /// The file is not of the one form that is read.
-    NotBuilt { file: FileName },
 }
 
 impl From<AllocError> for Cause {

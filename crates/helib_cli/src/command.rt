@@ -1,6 +1,6 @@
 //! What the words of a line ask for.
 ghost use Rattle.std.specs.Prelude.{◌≡◌, map, IfOk, string_bytes};
-ghost use Rattle.helib_cli.specs.Commands.{command_of, clear_of, names_of};
+ghost use Rattle.helib_cli.specs.Commands.{command_of, clear_of, names_of, summarise_of};
 
 use crate::names::Names;
 use line_text::Name;
@@ -15,6 +15,10 @@ pub enum Command {
         program: Name,
         inputs: Names,
     },
+    /// Prints the summary of a table.
+    Summarise {
+        table: Name,
+    },
 }
 
 /// The command that the words ask for, if they are in a command's grammar.
@@ -24,6 +28,7 @@ pub fn command_of(alloc: Global, words: &[String]) -> Result<Option<Command>, Al
 {
     match words {
         [word, rest @ ..] if word.as_str() == "clear" => clear_of(alloc, rest),
+        [word, rest @ ..] if word.as_str() == "table" => summarise_of(alloc, rest),
         _ => Ok(None),
     }
 }
@@ -53,6 +58,20 @@ fn clear_of(alloc: Global, words: &[String]) -> Result<Option<Command>, AllocErr
         program,
         inputs,
     }))
+}
+
+/// `table T`, from the word behind `table` on.
+#[tactic(auto, unfolding(crate::specs::Commands::summarise_of))]
+fn summarise_of(alloc: Global, words: &[String]) -> Result<Option<Command>, AllocError>
+    ensures { IfOk result (λ command. command ≡ summarise_of (map string_bytes words.now)) }
+{
+    let [table] = words else {
+        return Ok(None);
+    };
+    let Some(table) = Name::read(alloc, table.as_bytes())? else {
+        return Ok(None);
+    };
+    Ok(Some(Command::Summarise { table }))
 }
 
 /// The names that the words spell, if each spells one.

@@ -2,20 +2,13 @@
 //! with the number of the cause where it stops.
 #![tactic(auto)]
 
-mod arrays;
 pub mod cause;
-mod clear;
 mod command;
-mod document;
 mod effect;
-mod elements;
 mod names;
-mod program;
-mod program_text;
 mod reading;
 pub mod report;
 pub mod session;
-mod slots_text;
 #[cfg(test)]
 mod tests;
 

@@ -1,14 +1,15 @@
 //! The printed report of how a session ended, and the exit status.
-ghost use Rattle.std.specs.Prelude.{◌≡◌, ◌++◌, decimal, IfOk, OnOk};
-ghost use Rattle.line_text.specs.Kinds.{file_text};
-ghost use Rattle.helib_cli.specs.Report.{cause_text, number_of, report_of};
+ghost use Rattle.std.specs.Prelude.{◌≡◌, ◌++◌, decimal, codes, IfOk, OnOk};
+ghost use Rattle.line_text.specs.Kinds.{file_text, key_word};
+ghost use Rattle.helib_cli.specs.Report.{cause_text, fault_text, number_of, numbered, paired, report_of};
 
 use crate::cause::{Cause, Status};
-use line_text::{FileName, put_number};
+use line_text::{FileName, TableKey, put_number};
 use std::alloc::{AllocError, Global};
+use table_file::TableFault;
 
 /// The report of a status: nothing where all is done, else `stopped`, the number of the line and
-/// the cause with its field.
+/// the cause with its fields.
 ///
 /// A stop for want of the file `q.table` reads `stopped 0 NoFile q.table` and a newline.
 #[tactic(auto, unfolding(crate::specs::Report::report_of))]
@@ -26,7 +27,7 @@ pub fn report(alloc: Global, status: &Status) -> Result<Vec<u8>, AllocError>
     Ok(text)
 }
 
-/// Appends the name of a cause, and its field after a space.
+/// Appends the name of a cause, and its fields, each after a space.
 #[tactic(auto, unfolding(crate::specs::Report::cause_text))]
 fn put_cause(text: &mut Vec<u8>, cause: &Cause) -> Result<(), AllocError>
     ensures { OnOk result (text.new.items ≡ text.old.items ++ cause_text cause.now) }
@@ -34,10 +35,13 @@ fn put_cause(text: &mut Vec<u8>, cause: &Cause) -> Result<(), AllocError>
     match cause {
         Cause::Words => text.extend_from_slice(b"Words"),
         Cause::NoFile { file } => put_file(text, b"NoFile ", file),
-        Cause::ShelfFault { faults } => put_faults(text, b"ShelfFault ", *faults),
-        Cause::SinkFault { faults } => put_faults(text, b"SinkFault ", *faults),
+        Cause::BadTable { fault } => put_check(text, b"BadTable ", fault),
+        Cause::BadSlots { line } => put_numbered(text, b"BadSlots ", u64::from(*line)),
+        Cause::BadProgram { line } => put_numbered(text, b"BadProgram ", u64::from(*line)),
+        Cause::Arity { given, named } => put_paired(text, b"Arity ", *given, u64::from(*named)),
+        Cause::ShelfFault { faults } => put_numbered(text, b"ShelfFault ", u64::from(*faults)),
+        Cause::SinkFault { faults } => put_numbered(text, b"SinkFault ", u64::from(*faults)),
         Cause::Memory => text.extend_from_slice(b"Memory"),
-        Cause::NotBuilt { file } => put_file(text, b"NotBuilt ", file),
     }
 }
 
@@ -49,12 +53,71 @@ fn put_file(text: &mut Vec<u8>, word: &[u8], file: &FileName) -> Result<(), Allo
     file.put(text)
 }
 
-/// Appends a word and a number of faults.
-fn put_faults(text: &mut Vec<u8>, word: &[u8], faults: u32) -> Result<(), AllocError>
-    ensures { OnOk result (text.new.items ≡ text.old.items ++ (word.now ++ decimal faults)) }
+/// Appends a word and a number.
+fn put_numbered(text: &mut Vec<u8>, word: &[u8], i: u64) -> Result<(), AllocError>
+    ensures { OnOk result (text.new.items ≡ text.old.items ++ numbered word.now i) }
 {
     text.extend_from_slice(word)?;
-    put_number(text, u64::from(faults))
+    put_number(text, i)
+}
+
+/// Appends a word and two numbers.
+fn put_paired(text: &mut Vec<u8>, word: &[u8], i: u64, j: u64) -> Result<(), AllocError>
+    ensures { OnOk result (text.new.items ≡ text.old.items ++ paired word.now i j) }
+{
+    text.extend_from_slice(word)?;
+    put_number(text, i)?;
+    text.extend_from_slice(b" ")?;
+    put_number(text, j)
+}
+
+/// Appends a word and the name of a check with its key or places.
+fn put_check(text: &mut Vec<u8>, word: &[u8], fault: &TableFault) -> Result<(), AllocError>
+    ensures { OnOk result (text.new.items ≡ text.old.items ++ (word.now ++ fault_text fault.now)) }
+{
+    text.extend_from_slice(word)?;
+    put_fault(text, fault)
+}
+
+/// Appends the name of a check, and its key or places, each after a space.
+#[tactic(auto, unfolding(crate::specs::Report::fault_text))]
+fn put_fault(text: &mut Vec<u8>, fault: &TableFault) -> Result<(), AllocError>
+    ensures { OnOk result (text.new.items ≡ text.old.items ++ fault_text fault.now) }
+{
+    match fault {
+        TableFault::Text => text.extend_from_slice(b"Text"),
+        TableFault::Shape(key) => put_key(text, *key),
+        TableFault::Weight => text.extend_from_slice(b"Weight"),
+        TableFault::NotOrder => text.extend_from_slice(b"NotOrder"),
+        TableFault::NotPower(i) => put_numbered(text, b"NotPower ", u64::from(*i)),
+        TableFault::WrongCount => text.extend_from_slice(b"WrongCount"),
+        TableFault::NotDistinct(a, b) => {
+            put_paired(text, b"NotDistinct ", u64::from(*a), u64::from(*b))
+        }
+        TableFault::Tall => text.extend_from_slice(b"Tall"),
+        TableFault::NotFrobenius => text.extend_from_slice(b"NotFrobenius"),
+        TableFault::NotDivisor => text.extend_from_slice(b"NotDivisor"),
+        TableFault::Idempotent(slot) => put_numbered(text, b"Idempotent ", u64::from(*slot)),
+        TableFault::NotAnnihilated => text.extend_from_slice(b"NotAnnihilated"),
+        TableFault::NotComplete => text.extend_from_slice(b"NotComplete"),
+        TableFault::Dual(i, k) => put_paired(text, b"Dual ", u64::from(*i), u64::from(*k)),
+        TableFault::Size(i) => put_numbered(text, b"Size ", u64::from(*i)),
+        TableFault::Residue(i) => put_numbered(text, b"Residue ", u64::from(*i)),
+        TableFault::HalfRoot(i) => put_numbered(text, b"HalfRoot ", u64::from(*i)),
+        TableFault::Root(i) => put_numbered(text, b"Root ", u64::from(*i)),
+        TableFault::TwoRoot(i) => put_numbered(text, b"TwoRoot ", u64::from(*i)),
+        TableFault::Inverse(i, j) => put_paired(text, b"Inverse ", u64::from(*i), u64::from(*j)),
+        TableFault::PlainInverse(i) => put_numbered(text, b"PlainInverse ", u64::from(*i)),
+        TableFault::Memory => text.extend_from_slice(b"Memory"),
+    }
+}
+
+/// Appends `Shape` and the word of a key.
+fn put_key(text: &mut Vec<u8>, key: TableKey) -> Result<(), AllocError>
+    ensures { OnOk result (text.new.items ≡ text.old.items ++ (codes "Shape " ++ key_word key)) }
+{
+    text.extend_from_slice(b"Shape ")?;
+    text.extend_from_slice(key.word())
 }
 
 /// The exit status: the number of the cause, 0 where all is done.
@@ -66,10 +129,13 @@ pub fn number(status: &Status) -> u8
         Status::Stopped { cause, .. } => match cause {
             Cause::Words => 2,
             Cause::NoFile { .. } => 3,
+            Cause::BadTable { .. } => 5,
+            Cause::BadSlots { .. } => 6,
+            Cause::BadProgram { .. } => 7,
+            Cause::Arity { .. } => 14,
             Cause::ShelfFault { .. } => 30,
             Cause::SinkFault { .. } => 31,
             Cause::Memory => 40,
-            Cause::NotBuilt { .. } => 50,
         },
     }
 }

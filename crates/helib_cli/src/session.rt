@@ -1,20 +1,21 @@
 //! The one call that does what the program does, over any shelf and any sink.
-ghost use Rattle.std.specs.Prelude.{◌≡◌, false, map, List, IfErr, IsTrue, Ok, string_bytes};
+ghost use Rattle.std.specs.Prelude.{◌≡◌, false, map, List, IfErr, IfOk, IsTrue, Ok, string_bytes};
 ghost use Rattle.helib_cli.specs.Clauses.{faulted, is_shelf_fault, is_sink_fault, outcome_of, Adds, Counts, Gives, IsOfReading, IsOneFault, IsOwnStop, Leaves, Shows};
-ghost use Rattle.helib_cli.specs.Machine.{clear_on, command_on, line_on};
+ghost use Rattle.helib_cli.specs.Machine.{clear_on, command_on, line_on, matched, summarise_on};
 ghost use Rattle.helib_cli.specs.Plain.{ClearPrints};
 ghost use Rattle.shelf_core.specs.Files.{File};
 
 use crate::cause::{Cause, Status};
-use crate::clear::run_clear;
 use crate::command::{Command, command_of};
 use crate::effect::{Effect, Text};
 use crate::names::Names;
-use crate::reading::{arrays, program, read_table};
-use crate::slots_text::slots_text;
+use crate::reading::{arrays, program, table};
 use line_text::Name;
+use packed_clear::run_clear;
 use shelf_core::{Put, Shelf, Sink};
+use slot_array::print_slots;
 use std::alloc::Global;
+use table_file::summary;
 
 /// Runs the program's words, one command, over a shelf of files, and prints on a sink.
 pub fn session<S: Shelf, O: Sink>(
@@ -102,6 +103,7 @@ fn effect_of<S: Shelf>(alloc: Global, shelf: &mut S, command: &Command) -> Resul
             program,
             inputs,
         } => clear(alloc, shelf, table, program, inputs),
+        Command::Summarise { table } => summarise(alloc, shelf, table),
     }
 }
 
@@ -110,21 +112,53 @@ fn effect_of<S: Shelf>(alloc: Global, shelf: &mut S, command: &Command) -> Resul
 fn clear<S: Shelf>(
     alloc: Global,
     shelf: &mut S,
-    table: &Name,
+    table_name: &Name,
     program_name: &Name,
     names: &Names,
 ) -> Result<Effect, Cause>
     ensures tells { S.tells shelf.new ≡ S.tells shelf.old }
     ensures kept { S.files shelf.new ≡ S.files shelf.old }
-    ensures gives { IsTrue (S.tells shelf.old) → Gives (λ effect. effect) result (clear_on table.now program_name.now names.now (S.files shelf.old)) }
+    ensures gives { IsTrue (S.tells shelf.old) → Gives (λ effect. effect) result (clear_on table_name.now program_name.now names.now (S.files shelf.old)) }
     ensures counts { Counts (faulted is_shelf_fault result) (S.faults shelf.old) (S.faults shelf.new) }
     ensures cause { IfErr result IsOfReading }
 {
-    read_table(alloc, shelf, table)?;
-    let steps = program(alloc, shelf, program_name, names.len())?;
-    let inputs = arrays(alloc, shelf, names)?;
-    let output = run_clear(alloc, &steps, inputs.as_slice())?;
-    let text = slots_text(alloc, &output)?;
+    let table = table(alloc, shelf, table_name)?;
+    let slots = table.slots.as_ref();
+    let program = program(alloc, shelf, slots, program_name)?;
+    let inputs = arrays(alloc, shelf, slots, names)?;
+    match_inputs(names.len(), program.inputs())?;
+    let output = run_clear(alloc, slots, &table.cyclo, &program, inputs.as_slice())?;
+    let text = print_slots(alloc, &output)?;
+    Ok(Effect::Prints(Text::new(text)))
+}
+
+/// Whether as many inputs are given as the program names.
+#[tactic(auto, unfolding(crate::specs::Machine::matched))]
+fn match_inputs(given: usize, named: u32) -> Result<(), Cause>
+    ensures gives { Gives (λ u. u) result (matched given named) }
+    ensures counts { faulted is_shelf_fault result ≡ false }
+    ensures cause { IfErr result IsOfReading }
+    ensures same { IfOk result (λ _. given ≡ named) }
+{
+    let given = given as u64;
+    if given == u64::from(named) {
+        Ok(())
+    } else {
+        Err(Cause::Arity { given, named })
+    }
+}
+
+/// `table T`.
+#[tactic(auto, unfolding(crate::specs::Machine::summarise_on))]
+fn summarise<S: Shelf>(alloc: Global, shelf: &mut S, table_name: &Name) -> Result<Effect, Cause>
+    ensures tells { S.tells shelf.new ≡ S.tells shelf.old }
+    ensures kept { S.files shelf.new ≡ S.files shelf.old }
+    ensures gives { IsTrue (S.tells shelf.old) → Gives (λ effect. effect) result (summarise_on table_name.now (S.files shelf.old)) }
+    ensures counts { Counts (faulted is_shelf_fault result) (S.faults shelf.old) (S.faults shelf.new) }
+    ensures cause { IfErr result IsOfReading }
+{
+    let table = table(alloc, shelf, table_name)?;
+    let text = summary(alloc, &table)?;
     Ok(Effect::Prints(Text::new(text)))
 }
 

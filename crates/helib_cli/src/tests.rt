@@ -13,9 +13,15 @@ use std::test::Fail;
 const FILES: &str =
     "a.table:m = 7;p = 2;factor = [1, 1, 0, 1];dual = [[1,0,0],[0,0,1],[0,1,0]];generators = [[6, 2]];
 turned.table:generators=[[6,2]]#~;factor=[1,1,0,1]~;dual=[[1,0,0],[0,0,1],[0,1,0],]~;p=0x2;m=+7
+a3.table:m = 7;p = 2;factor = [1, 1, 0, 1];dual = [[1,0,0],[0,0,1],[0,1,0]];generators = [[3, 2]];
+b.table:m = 7;p = 2;factor = [1, 1, 0, 1];dual = [[1,0,0],[0,0,1],[0,1,0]];generators = [[6, 2]];weight = 2;digits = [1];chain = [[113, 7, 40, 1]];special = [[337, 285, 191, 1]];inverse = [[], [170]];
+psi.table:m = 7;p = 2;factor = [1, 1, 0, 1];dual = [[1,0,0],[0,0,1],[0,1,0]];generators = [[6, 2]];weight = 2;digits = [1];chain = [[113, 7, 41, 1]];special = [[337, 285, 191, 1]];inverse = [[], [170]];
+c.table:m = 32;p = 17;factor = [14, 0, 1];dual = [[9,0],[0,3]];generators = [[31, 2], [5, 4]];
+d.table:m = 24;p = 5;factor = [2, 1, 1];dual = [[4,2],[2,4]];generators = [[7, 2], [13, 2]];
 weighted.table:m = 7;p = 2;factor = [1, 1, 0, 1];dual = [[1,0,0],[0,0,1],[0,1,0]];generators = [[6, 2]];weight = 2;
 short.table:m = 7;p = 2;factor = [1, 1, 0, 1];dual = [[1,0,0],[0,0,1],[0,1,0]];
-other.table:m = 7;p = 2;factor = [1, 1, 0, 1];dual = [[1,0,0],[0,0,1],[0,1,0]];generators = [[3, 2]];
+eight.table:m = 8;p = 2;factor = [1, 1, 0, 1];dual = [[1,0,0],[0,0,1],[0,1,0]];generators = [[6, 2]];
+twin.table:m = 7;p = 2;factor = [1, 1, 0, 1];dual = [[1,0,0],[0,0,1],[0,1,0]];generators = [[2, 2]];
 longer.table:m = 7;p = 2;factor = [1, 1, 0, 1, 0];dual = [[1,0,0],[0,0,1],[0,1,0]];generators = [[6, 2]];
 broken.table:m =
 empty.table:
@@ -25,6 +31,12 @@ sum.prog:input x;input y;z = add x y;output z;
 fifth.prog:input x;y = mul x x;z = mul y y;v = mul z x;w = add v y;output w;
 odd.prog:#input q;;  input   input ~;output = mul input input; # # ;output output
 minus.prog:input x;input y;z = sub x y;output z;
+auto.prog:input x;z = auto 3 x;output z;
+turn.prog:input x;z = rotate 0 1 x;output z;
+still.prog:input x;z = rotate 0 2 x;output z;
+third.prog:input x;z = rotate 1 3 x;output z;
+both.prog:input x;y = rotate 0 1 x;z = rotate 1 1 y;output z;
+consts.prog:input x;const c 1,0,0 0,0,0;y = mulc x c;z = addc y c;output z;
 twice.prog:input x;x = add x x;output x;
 later.prog:input x;z = add x y;y = add x x;output z;
 after.prog:input x;output x;y = add x x;
@@ -34,19 +46,34 @@ long.prog:input x;output x x;
 empty.prog:
 x.slots:0 1 0;1 0 0;
 y.slots:0 0 1;1 1 1;
+count.slots:1 1;2 1;3 1;4 1;5 1;6 1;7 1;8 1;
+four.slots:1 0;2 0;3 0;4 0;
 spaced.slots:  00  1 0 ~;1 0 0
 two.slots:0 2 0;1 0 0;
 one.slots:0 1 0;
+none.slots:
 three.slots:0 1 0;1 0 0;1 0 0;";
 
 /// What each line prints and reports, in the same spelling, and the exit status.
 const ROWS: &str = "clear a prod x y:1 1 0;1 1 1;:0
 clear a same x:0 1 0;1 0 0;:0
+clear b prod x y:1 1 0;1 1 1;:0
 clear a sum x y:0 1 1;0 1 1;:0
+clear a minus x y:0 1 1;0 1 1;:0
 clear a fifth x:1 1 0;0 0 0;:0
 clear a odd x:0 0 1;1 0 0;:0
 clear a same spaced:0 1 0;1 0 0;:0
 clear turned same y:0 0 1;1 1 1;:0
+clear a3 auto x:1 0 0;0 0 1;:0
+clear a3 turn x:1 0 0;0 1 0;:0
+clear a still x:0 1 0;1 0 0;:0
+clear a3 still x:0 1 0;1 0 0;:0
+clear a consts x:1 1 0;0 0 0;:0
+clear c third count:2 1;3 1;4 1;1 1;6 1;7 1;8 1;5 1;:0
+clear d both four:4 0;3 0;2 0;1 0;:0
+table a:m 7 n 6 p 2 d 3 slots 2;dim 0 generator 6 size 2 good;:0
+table b:m 7 n 6 p 2 d 3 slots 2;dim 0 generator 6 size 2 good;chain 1 special 1 columns 1;height 1 weight 2;fresh 1086 switch 27 settle 54;limit 0 56;:0
+table a3:m 7 n 6 p 2 d 3 slots 2;dim 0 generator 3 size 2 bad;:0
 :stopped 0 Words;:2
 clear:stopped 0 Words;:2
 clear a:stopped 0 Words;:2
@@ -55,30 +82,35 @@ clear A prod x:stopped 0 Words;:2
 clear a prod.prog x:stopped 0 Words;:2
 clear a same x Y:stopped 0 Words;:2
 Clear a same x:stopped 0 Words;:2
-table a:stopped 0 Words;:2
+table:stopped 0 Words;:2
+table a a:stopped 0 Words;:2
 clear q prod x:stopped 0 NoFile q.table;:3
+table q:stopped 0 NoFile q.table;:3
 clear a q x:stopped 0 NoFile q.prog;:3
 clear a prod x q:stopped 0 NoFile q.slots;:3
 clear x x x:stopped 0 NoFile x.table;:3
-clear weighted q x:stopped 0 NotBuilt weighted.table;:50
-clear short same x:stopped 0 NotBuilt short.table;:50
-clear other same x:stopped 0 NotBuilt other.table;:50
-clear longer same x:stopped 0 NotBuilt longer.table;:50
-clear broken same x:stopped 0 NotBuilt broken.table;:50
-clear empty same x:stopped 0 NotBuilt empty.table;:50
-clear a minus x y:stopped 0 NotBuilt minus.prog;:50
-clear a prod q:stopped 0 NotBuilt prod.prog;:50
-clear a same x y:stopped 0 NotBuilt same.prog;:50
-clear a twice x:stopped 0 NotBuilt twice.prog;:50
-clear a later x:stopped 0 NotBuilt later.prog;:50
-clear a after x:stopped 0 NotBuilt after.prog;:50
-clear a double x:stopped 0 NotBuilt double.prog;:50
-clear a endless x:stopped 0 NotBuilt endless.prog;:50
-clear a long x:stopped 0 NotBuilt long.prog;:50
-clear a empty x:stopped 0 NotBuilt empty.prog;:50
-clear a same two:stopped 0 NotBuilt two.slots;:50
-clear a same one:stopped 0 NotBuilt one.slots;:50
-clear a same three:stopped 0 NotBuilt three.slots;:50";
+clear weighted q x:stopped 0 BadTable Shape digits;:5
+clear short same x:stopped 0 BadTable Shape generators;:5
+clear eight same x:stopped 0 BadTable NotOrder;:5
+clear twin same x:stopped 0 BadTable NotDistinct 1 3;:5
+clear psi same x:stopped 0 BadTable TwoRoot 0;:5
+clear longer same x:stopped 0 BadTable Shape factor;:5
+clear broken same x:stopped 0 BadTable Text;:5
+clear empty same x:stopped 0 BadTable Shape m;:5
+clear a prod q:stopped 0 NoFile q.slots;:3
+clear a prod x:stopped 0 Arity 1 2;:14
+clear a same x y:stopped 0 Arity 2 1;:14
+clear a twice x:stopped 0 BadProgram 2;:7
+clear a later x:stopped 0 BadProgram 2;:7
+clear a after x:stopped 0 BadProgram 3;:7
+clear a double x:stopped 0 BadProgram 3;:7
+clear a endless x:stopped 0 BadProgram 2;:7
+clear a long x:stopped 0 BadProgram 2;:7
+clear a empty x:stopped 0 BadProgram 1;:7
+clear a same none:stopped 0 BadSlots 1;:6
+clear a same two:stopped 0 BadSlots 1;:6
+clear a same one:stopped 0 BadSlots 2;:6
+clear a same three:stopped 0 BadSlots 3;:6";
 
 /// The bytes that the spelling of a text stands for.
 fn text_of(alloc: Global, spelling: &str) -> Result<Vec<u8>, Fail> {
@@ -246,6 +278,6 @@ fn run_long<R: Abort + AllocGlobal>(rt: &R, blank: usize) -> Result<u8, Fail> {
 #[test]
 fn programs_of_many_lines(rt: HostRuntime) -> Result<(), Fail> {
     assert_eq!(rt; run_long(&rt, 99_998)?, 0);
-    assert_eq!(rt; run_long(&rt, 99_999)?, 50);
+    assert_eq!(rt; run_long(&rt, 99_999)?, 7);
     Ok(())
 }

@@ -1,4 +1,6 @@
 use Rattle.std.proofs.Common.{◌≡◌, drop, length, IsTrue}
+use Rattle.std.specs.Prelude.{All}
+use Rattle.slot_array.specs.Arrays.{IsArray}
 use Rattle.helib_cli.specs.Machine.{arrays_on}
 use Rattle.helib_cli.proofs.ClauseLaws.{after}
 use Rattle.helib_cli.proofs.reading.arrays.Given as goal
@@ -8,5 +10,6 @@ invariant-loop-name g l =
     (g.S.Shelf.tells l.shelf ≡ g.S.Shelf.tells l.fn.shelf)
     × (g.S.Shelf.files l.shelf ≡ g.S.Shelf.files l.fn.shelf)
     × (g.S.Shelf.faults l.shelf ≡ g.S.Shelf.faults l.fn.shelf)
+    × All (λ a. IsArray l.slots.field l.slots.cube a) l.arrays.items
     × (length l.arrays.items ≡ l.name-index)
-    × (IsTrue (g.S.Shelf.tells l.fn.shelf) → after l.arrays.items (arrays_on (drop l.name-index l.names) (g.S.Shelf.files l.fn.shelf)) ≡ arrays_on l.names (g.S.Shelf.files l.fn.shelf))
+    × (IsTrue (g.S.Shelf.tells l.fn.shelf) → after l.arrays.items (arrays_on l.slots (drop l.name-index l.names) (g.S.Shelf.files l.fn.shelf)) ≡ arrays_on l.slots l.names (g.S.Shelf.files l.fn.shelf))
