@@ -3,6 +3,8 @@
 #![tactic(auto)]
 
 #[cfg(test)]
+mod cyclo;
+#[cfg(test)]
 mod nested;
 #[cfg(test)]
 mod residues;
