@@ -1,5 +1,5 @@
 -- The faults of a template, as faults of its filling.
-use Rattle.std.specs.Prelude.{ℕ, Bool, true, false, Option, None, Some, Result, Ok, Err}
+use Rattle.std.specs.Prelude.{◌≡◌, ℕ, Bool, true, false, Option, None, Some, Result, Ok, Err}
 use Rattle.table_keys.specs.declared.faults.TemplateFault.{TemplateFault}
 use Rattle.table_keys.specs.declared.faults.TemplateFault.TheVariants as keys
 use Rattle.table_maker.specs.declared.faults.MakeFault.{MakeFault}
@@ -30,3 +30,8 @@ abbrev pub is_memory : MakeFault → Bool
 is_memory (BadTemplate key) = false
 is_memory (NoRoot i) = false
 is_memory Memory = true
+
+-- what was returned, seen by view, is what is defined, but for want of memory
+abbrev pub Gives : {X Y : Type 0} → (X → Y) → Result X MakeFault → Result Y MakeFault → Type 0
+Gives view (Ok x) on = on ≡ Ok (view x)
+Gives view (Err fault) on = is_memory fault ≡ false → on ≡ Err fault

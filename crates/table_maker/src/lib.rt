@@ -6,6 +6,7 @@
 
 mod faults;
 mod making;
+mod moduli;
 
 pub use faults::MakeFault;
 pub use making::make;
