@@ -1,0 +1,3 @@
+pub mod ValuesSums
+pub mod ValuesRows
+pub mod ValuesMean
