@@ -1,3 +1,4 @@
 pub mod ValuesSums
 pub mod ValuesRows
 pub mod ValuesMean
+pub mod ValuesKeep
