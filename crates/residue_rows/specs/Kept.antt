@@ -7,7 +7,7 @@ use Rattle.moduli_table.specs.Chain.{Chain}
 use Rattle.moduli_table.specs.Checks.{omega_of}
 use Rattle.moduli_table.specs.Accepted.{IsAccepted}
 use Rattle.residue_rows.specs.Rows.{AreRows, R_each}
-use Rattle.residue_rows.specs.Values.{Root, values_of}
+use Rattle.residue_rows.specs.Values.{Root, values_of, interpolated}
 
 -- the moduli with their roots and inverses, the weight of a secret, and the sizes of the groups of digits
 pub record RingSetting : Type 0 where
@@ -68,6 +68,12 @@ unfoldable pub values_each : ℕ → List ModRow → List (List ℕ) → List (L
 values_each m [] rows = []
 values_each m (r ∷ rs) [] = []
 values_each m (r ∷ rs) (row ∷ rows) = values_of m (root_of r) row ∷ values_each m rs rows
+
+-- at each modulus the residues that have the given values at the units
+unfoldable pub interpolated_each : ℕ → List ModRow → List (List ℕ) → List (List ℕ)
+interpolated_each m [] values = []
+interpolated_each m (r ∷ rs) [] = []
+interpolated_each m (r ∷ rs) (v ∷ values) = interpolated m (root_of r) v ∷ interpolated_each m rs values
 
 -- the values of a polynomial: for each modulus, for each unit j in ascending order, the value at omega^j
 abbrev pub polynomial_values : Residues → List (List ℕ)
