@@ -1,13 +1,12 @@
 -- The values of polynomials kept by residues, modulus by modulus.
-use Rattle.std.specs.Prelude.{◌≡◌, ℕ, Bool, All, List, [], ◌∷◌, map, refl}
-use Rattle.std.specs.List.{AllZip}
-use Rattle.std.proofs.Common.{sym, ◌∙◌, ap, ap₂, subst, arith}
+use Rattle.std.specs.Prelude.{◌≡◌, ℕ, All, List, [], ◌∷◌, map, refl}
+use Rattle.std.proofs.Common.{sym, ◌∙◌, ap, ap₂, subst}
 use Rattle.std.proofs.lemmas.List.Elements.{All-head, All-tail}
 use Rattle.moduli_table.specs.declared.rows.ModRow.{ModRow}
 use Rattle.residue_rows.specs.Rows.{AreRows}
-use Rattle.residue_rows.specs.Values.{values_of, interpolated}
+use Rattle.residue_rows.specs.Values.{values_of}
 use Rattle.residue_rows.specs.ValueLaws.{IsAcceptedRoot}
-use Rattle.residue_rows.specs.Kept.{RingSetting, rows_kept, root_of, Residues, IsKept, with_rows, AreAlike, values_each, interpolated_each, polynomial_values}
+use Rattle.residue_rows.specs.Kept.{rows_kept, root_of, Residues, IsKept, with_rows, AreAlike, values_each, polynomial_values}
 use Rattle.residue_rows.specs.KeptLaws.{ValuesDetermineLaw}
 use Rattle.residue_rows.proofs.ValuesMean.{determined}
 use Rattle.residue_rows.proofs.ModuliKept.{roots_are}

@@ -1,5 +1,5 @@
 -- The moduli of accepted tables that a polynomial keeps.
-use Rattle.std.specs.Prelude.{◌≡◌, ◌⊎◌, ℕ, ◌+◌, ◌-◌, ◌*◌, ◌/◌, ◌%◌, ◌^◌, ◌<◌, ◌≤◌, Bool, true, false, if◌then◌else◌, All, AllPairs, List, [], ◌++◌, map, length, get_or, take, refl}
+use Rattle.std.specs.Prelude.{◌≡◌, ◌⊎◌, ℕ, ◌+◌, ◌-◌, ◌*◌, ◌/◌, ◌%◌, ◌^◌, ◌<◌, ◌≤◌, Bool, true, false, if◌then◌else◌, All, AllPairs, List, [], ◌++◌, length, get_or, take, refl}
 use Rattle.std.proofs.Common.{sym, ◌∙◌, ap, subst, subst₂, arith, inl, inr, div-add-mod', append-nil}
 use Rattle.std.proofs.lemmas.Bool.{cases_lt}
 use Rattle.std.proofs.lemmas.List.{length-map, length-append, length-take, get_or_default, get_or-map, get_or-take, get_or_append_left, get_or-append_right}
@@ -7,7 +7,7 @@ use Rattle.std.proofs.lemmas.List.Elements.{All-map, All-weaker, All-from_get_or
 use Rattle.algebra.specs.Divisor.{HasInverse}
 use Rattle.algebra.specs.Whole.{AreInvertible}
 use Rattle.moduli_table.specs.declared.rows.ModRow.{ModRow}
-use Rattle.moduli_table.specs.Chain.{Chain, no_row, count, row_at, modulus_at, entry_at}
+use Rattle.moduli_table.specs.Chain.{Chain, no_row, modulus_at, entry_at}
 use Rattle.moduli_table.specs.Accepted.{IsInverse, IsAcceptedRow}
 use Rattle.moduli_table.proofs.Omega.{are_roots}
 use Rattle.residue_rows.specs.Kept.{RingSetting, IsSetting, rows_kept, moduli_kept, root_of}

@@ -1,5 +1,5 @@
 -- The operations of R modulo q go value by value.
-use Rattle.std.specs.Prelude.{◌≡◌, ℕ, ◌+◌, ◌-◌, ◌*◌, ◌/◌, ◌%◌, ◌<◌, nat_lt, Bool, IsTrue, All, List, map, length, get_or, ℤ, refl}
+use Rattle.std.specs.Prelude.{◌≡◌, ℕ, ◌+◌, ◌-◌, ◌*◌, ◌/◌, ◌%◌, ◌<◌, nat_lt, Bool, IsTrue, All, List, map, length, get_or}
 use Rattle.std.proofs.Common.{sym, ◌∙◌, ap, ap₂, arith, div-add-mod', mod-eq_of_lt, mul_comm}
 use Rattle.std.proofs.lemmas.List.{length-map, get_or-map, ext_get_or}
 use Rattle.algebra.specs.Ring.{CommRing, residues}
@@ -8,7 +8,7 @@ use Rattle.algebra.specs.HeldRing.{Held}
 use Rattle.algebra.specs.Power.{power}
 use Rattle.algebra.specs.Poly.{value_at, plus, negated, scaled, times, at_power, remainder}
 use Rattle.algebra.specs.Divisor.{UnitModulo, units}
-use Rattle.algebra.specs.Whole.{residue, below}
+use Rattle.algebra.specs.Whole.{residue}
 use Rattle.algebra.proofs.Held.{same_held}
 use Rattle.algebra.proofs.Homs.{keeps_power}
 use Rattle.algebra.proofs.HeldLists.{each_list, held_preserves, times_held, at_power_held}
@@ -20,7 +20,7 @@ use Rattle.algebra.proofs.UnitList.{unit_at, unit_positive, unit_is}
 use Rattle.cyclotomic.specs.Cyclotomic.{degree}
 use Rattle.cyclotomic.proofs.Roots.{root-shift}
 use Rattle.residue_rows.specs.Rows.{phi_modulo, R_modulo}
-use Rattle.residue_rows.specs.Values.{Root, value_of, values_of, IsRow}
+use Rattle.residue_rows.specs.Values.{Root, value_of, values_of}
 use Rattle.residue_rows.specs.ValueLaws.{IsAcceptedRoot, pointwise, ValuesKeep}
 use Rattle.residue_rows.proofs.ValuesRows.{laws_of, ring_of, to_held, from_held, residue_held_of, value_is, value_in, on, some, omega_in, place_in, count_is, keeps_at, length-values_of, get_or-values_of, get_or-over, length-over}
 

@@ -1,5 +1,5 @@
 -- The polynomial with given values at the units.
-use Rattle.std.specs.Prelude.{◌≡◌, ◌≢◌, ◌⊎◌, ℕ, ◌-◌, ◌*◌, ◌%◌, ◌<◌, nat_lt, Bool, IsTrue, All, List, map, length, get_or, refl}
+use Rattle.std.specs.Prelude.{◌≡◌, ◌≢◌, ◌⊎◌, ℕ, ◌-◌, ◌*◌, ◌%◌, ◌<◌, nat_lt, Bool, IsTrue, All, List, map, length, get_or}
 use Rattle.std.proofs.Common.{sym, ◌∙◌, ap, subst, arith, inl, inr, lt-ltb}
 use Rattle.std.proofs.lemmas.Bool.{cases_order}
 use Rattle.std.proofs.lemmas.List.{length-map, get_or-map, ext_get_or}
@@ -28,7 +28,7 @@ use Rattle.residue_rows.specs.Rows.{phi_modulo}
 use Rattle.residue_rows.specs.Values.{Root, value_of, values_of, IsRow, share, mean, interpolated}
 use Rattle.residue_rows.specs.ValueLaws.{IsAcceptedRoot, ValuesAre}
 use Rattle.residue_rows.proofs.ValuesSums.{pointed, pointed_value}
-use Rattle.residue_rows.proofs.ValuesRows.{share_in, share_is, laws_of, ring_of, to_held, from_held, entry_in, number_is, value_is, back, on, some, omega_in, back_held, are_pair, place_in, count_is, keeps_at, remainder_row, length-values_of, get_or-values_of, values_row, same_values_of, get_or-over, length-over}
+use Rattle.residue_rows.proofs.ValuesRows.{share_in, share_is, laws_of, ring_of, to_held, from_held, entry_in, number_is, value_is, back, on, some, omega_in, back_held, are_pair, place_in, keeps_at, remainder_row, length-values_of, get_or-values_of, values_row, same_values_of, get_or-over, length-over}
 
 module _ (m : ℕ) (r : Root) (A : IsAcceptedRoot m r) where
   abbrev held : ℕ → Bool

@@ -4,10 +4,9 @@ use Rattle.std.proofs.Common.{sym, ◌∙◌, ap, subst, arith, div-add-mod', lt
 use Rattle.std.proofs.lemmas.Bool.{cases_lt}
 use Rattle.std.proofs.lemmas.List.{length-map, get_or-map, get_or_past, ext_get_or}
 use Rattle.std.proofs.lemmas.List.Elements.{All-from_get_or}
-use Rattle.std.proofs.lemmas.Nat.{div-mul-add, mul-mod_second}
+use Rattle.std.proofs.lemmas.Nat.{div-mul-add}
 use Rattle.std.proofs.Math.Nat.{mul-le-mul_left, add-mul-mod_self_right, mod-add-mod, add-mod-mod}
-use Rattle.algebra.specs.Ring.{HeldLaws, CommRing, residues, whole_numbers}
-use Rattle.algebra.specs.Hom.{Preserves}
+use Rattle.algebra.specs.Ring.{HeldLaws, CommRing, residues}
 use Rattle.algebra.specs.HeldRing.{Held}
 use Rattle.algebra.specs.Power.{power, number}
 use Rattle.algebra.specs.Poly.{all_held, value_at, remainder}

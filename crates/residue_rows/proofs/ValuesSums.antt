@@ -1,6 +1,6 @@
 -- Values at some powers of a root of unity: the coefficients with given values there and 0 at the other powers, as sums.
-use Rattle.std.specs.Prelude.{◌≡◌, ◌≢◌, ◌⊎◌, ℕ, ◌*◌ as ◌*ₙ◌, ◌<◌, Bool, true, false, cond, eqb, refl}
-use Rattle.std.proofs.Common.{sym, ◌∙◌, ap, ap₂, inl, inr, eqb-true, eq-eqb}
+use Rattle.std.specs.Prelude.{◌≡◌, ◌≢◌, ◌⊎◌, ℕ, ◌*◌ as ◌*ₙ◌, ◌<◌, true, false, cond, eqb, refl}
+use Rattle.std.proofs.Common.{sym, ◌∙◌, ap, inl, inr, eqb-true, eq-eqb}
 use Rattle.std.proofs.lemmas.Bool.{cases_Bool}
 use Rattle.algebra.specs.Ring.{CommRing}
 use Rattle.algebra.specs.Range.{total, adds}
