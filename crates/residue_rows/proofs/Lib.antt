@@ -4,3 +4,5 @@ pub mod ValuesMean
 pub mod ValuesKeep
 pub mod ModuliKept
 pub mod KeptValues
+pub mod ValuesActions
+pub mod ValuesEach
