@@ -1,0 +1,2 @@
+pub mod RowsRing
+pub mod RowsResidues
