@@ -1,2 +1,3 @@
 pub mod RowsRing
 pub mod RowsResidues
+pub mod WholeRows

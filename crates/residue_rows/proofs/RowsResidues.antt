@@ -1,27 +1,26 @@
 -- The residues of whole polynomials keep the operations, and so do multiples and substitutions of rows.
-use Rattle.std.specs.Prelude.{◌≡◌, ℕ, suc, ◌<◌, All, List, [], ◌∷◌, map, length, get_or, ℤ, pos, refl}
+use Rattle.std.specs.Prelude.{◌≡◌, ℕ, ◌<◌, All, List, [], ◌∷◌, map, length, get_or, ℤ, pos, refl}
 use Rattle.std.proofs.Common.{arith, sym, ◌∙◌, ap, ap₂, mod-eq_of_lt, subst}
 use Rattle.std.proofs.lemmas.List.{length-map, get_or-map}
 use mathlib.Core.Path.{fun_ext}
 use Rattle.algebra.specs.Ring.{whole_numbers, residues}
 use Rattle.algebra.specs.Hom.{Preserves}
 use Rattle.algebra.specs.Series.{product}
-use Rattle.algebra.specs.Poly.{plus, negated, scaled, times, at_power, remainder, coeff}
+use Rattle.algebra.specs.Poly.{plus, scaled, times, at_power, remainder, coeff}
 use Rattle.algebra.specs.Whole.{residue}
 use Rattle.algebra.proofs.Chinese.{all_rest}
 use Rattle.algebra.proofs.Integers.{whole_ring}
-use Rattle.algebra.proofs.Lists.{same_list, length-plus, coeff-plus, coeff-scaled, coeff-times}
+use Rattle.algebra.proofs.Lists.{coeff-scaled, coeff-times}
 use Rattle.algebra.proofs.Basic.{mul_add}
 use Rattle.algebra.proofs.SeriesRing.{product-scaled}
-use Rattle.algebra.proofs.Dividing.{length-remainder}
-use Rattle.algebra.proofs.Maps.{map_plus, map_scaled, map_at_power, map_remainder, map_modulo, map_degree_of}
+use Rattle.algebra.proofs.Maps.{map_scaled, map_at_power, map_remainder, map_modulo}
 use Rattle.algebra.proofs.Quotients.{remainder_same, remainder-scaled}
 use Rattle.algebra.proofs.WholeResidues.{residue_lt, residue_preserves}
-use Rattle.cyclotomic.specs.Cyclotomic.{phi, degree, R, IsElement, fold, substituted, multiple}
+use Rattle.cyclotomic.specs.Cyclotomic.{phi, degree, R, IsElement, substituted, multiple}
 use Rattle.cyclotomic.proofs.PhiLaws.{phi_is_monic}
 use Rattle.cyclotomic.proofs.RingR.{fold_element}
-use Rattle.residue_rows.specs.Rows.{phi_modulo, R_modulo, row_of, rows_of, AreRows, each, both, R_each, multiple_each, substituted_each}
-use Rattle.residue_rows.specs.RowLaws.{ResiduesKeep, ResiduesLaw, MultiplesKeep, MultiplesLaw}
+use Rattle.residue_rows.specs.Rows.{phi_modulo, R_modulo, row_of, rows_of, AreRows, each, both, R_each, multiple_each}
+use Rattle.residue_rows.specs.RowLaws.{ResiduesKeep, ResiduesLaw, MultiplesLaw}
 
 -- ---- one modulus
 module _ (q : ℕ) (positive : 0 < q) where

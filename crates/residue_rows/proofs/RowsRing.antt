@@ -1,6 +1,6 @@
 -- Rows of residues as a ring: R modulo each of the moduli.
-use Rattle.std.specs.Prelude.{◌≡◌, ℕ, suc, ◌-◌, ◌<◌, nat_lt, Bool, true, ◌&&◌, eqb, IsTrue, All, List, [], ◌∷◌, map, length, get_or, ℤ, refl}
-use Rattle.std.proofs.Common.{arith, ◌∙◌, ap, ap₂, subst, eq-eqb, eqb-true, lt-ltb, ltb-true}
+use Rattle.std.specs.Prelude.{◌≡◌, ℕ, suc, ◌<◌, nat_lt, Bool, true, ◌&&◌, eqb, IsTrue, All, List, [], ◌∷◌, map, length, get_or, ℤ, refl}
+use Rattle.std.proofs.Common.{arith, ap₂, subst, eq-eqb, eqb-true, lt-ltb, ltb-true}
 use Rattle.std.proofs.lemmas.Bool.{and_parts, and_from}
 use Rattle.algebra.specs.Ring.{Ops, HeldLaws, residues}
 use Rattle.algebra.specs.Hom.{Preserves}
