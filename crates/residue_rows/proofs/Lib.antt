@@ -1,3 +1,6 @@
+pub mod RowsRing
+pub mod RowsResidues
+pub mod WholeRows
 pub mod ValuesSums
 pub mod ValuesRows
 pub mod ValuesMean
