@@ -1,0 +1,5 @@
+pub mod LevelRows
+pub mod Drawn
+pub mod NormCounts
+pub mod SizesMade
+pub mod Fresh
