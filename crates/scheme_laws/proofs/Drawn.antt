@@ -1,7 +1,7 @@
 -- What a stream gives: secrets, errors, small polynomials, residues, and public keys.
-use Rattle.std.specs.Prelude.{◌≡◌, ℕ, zero, suc, ◌+◌, ◌-◌, ◌*◌, ◌/◌, ◌%◌, ◌^◌, ◌<◌, ◌≤◌, All, List, [], ◌∷◌, length, get_or, ℤ, nat_abs, count_ones, refl}
+use Rattle.std.specs.Prelude.{◌≡◌, ℕ, ◌+◌, ◌*◌, ◌/◌, ◌%◌, ◌^◌, ◌<◌, ◌≤◌, All, List, [], ◌∷◌, length, get_or, nat_abs, count_ones, refl}
 use Rattle.std.specs.List.{range_with_len}
-use Rattle.std.proofs.Common.{arith, ap, mod-lt}
+use Rattle.std.proofs.Common.{arith, mod-lt}
 use Rattle.std.proofs.lemmas.List.Elements.{All-map, All-tail}
 use Rattle.std.proofs.lemmas.List.FromFn.{length-map-range_with_len}
 use Rattle.draw_stream.specs.Draw.{Stream, word, error_of, small_of, uniform_at, errors_at, smalls_at, uniforms_at}
@@ -11,7 +11,7 @@ use Rattle.cyclotomic.specs.Cyclotomic.{degree}
 use Rattle.residue_rows.specs.Rows.{AreRows}
 use Rattle.residue_rows.specs.Kept.{RingSetting, IsSetting}
 use Rattle.scheme_laws.specs.Scheme.{SchemeSetting, top, moduli_at}
-use Rattle.scheme_laws.specs.Keys.{n_of, IsSecret, IsError, IsPublicOf, public_drawn, secret_drawn, uniform_rows, uniform_words}
+use Rattle.scheme_laws.specs.Keys.{n_of, IsError, uniform_rows, uniform_words}
 use Rattle.scheme_laws.specs.Ciphers.{IsSmall}
 use Rattle.scheme_laws.specs.SchemeLaws.{DrawsAre, DrawsLaw}
 use Rattle.scheme_laws.proofs.LevelRows.{moduli, top_fits}

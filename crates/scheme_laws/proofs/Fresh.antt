@@ -1,36 +1,35 @@
 -- A fresh ciphertext stands for its array.
 use Rattle.std.specs.Prelude.{◌≡◌, ℕ, suc, ◌+◌ as ◌+ₙ◌, ◌*◌ as ◌*ₙ◌, ◌/◌, ◌<◌ as ◌<ₙ◌, ◌≤◌, List, [], ◌∷◌, length, map, ℤ, pos, nat_abs, ◌+ℤ◌, ◌*ℤ◌, refl}
-use Rattle.std.proofs.Common.{arith, sym, ◌∙◌, ap, ap₂, subst, le_trans}
-use Rattle.std.proofs.lemmas.List.{length-map, get_or-map, ext_get_or}
+use Rattle.std.proofs.Common.{arith, sym, ◌∙◌, ap, ap₂, subst}
+use Rattle.std.proofs.lemmas.List.{length-map, ext_get_or}
 use Rattle.algebra.specs.Ring.{Ops, CommRing, whole_numbers}
 use Rattle.algebra.specs.Expression.{◌:+◌, ◌:*◌, minus, var}
-use Rattle.algebra.specs.Poly.{coeff, times, plus, negated}
-use Rattle.algebra.specs.Whole.{residue, SameModulo}
+use Rattle.algebra.specs.Poly.{coeff, times}
+use Rattle.algebra.specs.Whole.{residue}
 use Rattle.algebra.proofs.Integers.{whole_ring}
 use Rattle.algebra.proofs.Lists.{length-plus, coeff-plus, coeff-scaled}
 use Rattle.algebra.proofs.Maps.{map_coeff}
 use Rattle.algebra.proofs.Solver.{env, solve}
 use Rattle.algebra.proofs.WholeResidues.{residue_preserves, same_residue}
-use Rattle.cyclotomic.specs.Cyclotomic.{degree, R, IsElement, multiple}
+use Rattle.cyclotomic.specs.Cyclotomic.{R, IsElement, multiple}
 use Rattle.cyclotomic.specs.Norm.{one_norm, NormAtMost}
 use Rattle.cyclotomic.proofs.NormLists.{own_bounded, sum_bounded, product_bounded, multiple_bounded, bounds_grow}
 use Rattle.cyclotomic.proofs.RingR.{fold_element}
-use Rattle.draw_stream.specs.Draw.{Stream, errors_at, smalls_at}
+use Rattle.draw_stream.specs.Draw.{errors_at, smalls_at}
 use Rattle.noise_bound.specs.Machine.{Sizes, fresh}
 use Rattle.noise_bound.proofs.RoundingLaws.{le-up}
 use Rattle.slot_array.specs.Arrays.{Array, IsArray}
 use Rattle.slot_laws.specs.Slots.{slots, encode}
 use Rattle.slot_laws.proofs.Encoding.{encodes_slots}
 use Rattle.slot_laws.proofs.SlotMaps.{slots_see}
-use Rattle.residue_rows.specs.Rows.{AreRows, R_each, multiple_each}
+use Rattle.residue_rows.specs.Rows.{AreRows}
 use Rattle.residue_rows.specs.RowLaws.{ResiduesKeep}
-use Rattle.residue_rows.specs.Kept.{RingSetting, IsSetting}
 use Rattle.residue_rows.proofs.RowsResidues.{multiple-plus, multiple-mul}
 use Rattle.scheme_laws.specs.Scheme.{SchemeSetting, IsScheme, sizes_of, top, moduli_at, ring_at, rows_at}
-use Rattle.scheme_laws.specs.Keys.{PublicKey, n_of, IsSecret, IsError, IsPublicOf, public_part}
+use Rattle.scheme_laws.specs.Keys.{PublicKey, n_of, IsSecret, IsError, IsPublicOf}
 use Rattle.scheme_laws.specs.Ciphers.{IsCipher, IsSmall, encrypted, opened_rows, Stands}
 use Rattle.scheme_laws.specs.SchemeLaws.{NormCounts, PublicPartIsWhole, FreshStands, DrawnStands}
-use Rattle.scheme_laws.proofs.LevelRows.{m_some, top_fits, moduli, keep, laws, Level, held, rows_of_held, at}
+use Rattle.scheme_laws.proofs.LevelRows.{m_some, top_fits, keep, Level, held, rows_of_held, at}
 use Rattle.scheme_laws.proofs.NormCounts.{counts, p_same, encoded_element}
 use Rattle.scheme_laws.proofs.Drawn.{drawn_small, drawn_error}
 

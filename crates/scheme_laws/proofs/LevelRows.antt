@@ -1,10 +1,10 @@
 -- R modulo the moduli of a level, as a ring, and the residues of whole polynomials in it.
-use Rattle.std.specs.Prelude.{◌≡◌, ℕ, suc, ◌-◌, ◌<◌, ◌≤◌, false, All, List, length, ℤ, pos, refl}
-use Rattle.std.proofs.Common.{arith, sym, ◌∙◌, ap, ap₂}
+use Rattle.std.specs.Prelude.{ℕ, suc, ◌<◌, ◌≤◌, false, List, length, ℤ}
+use Rattle.std.proofs.Common.{arith}
 use Rattle.algebra.specs.Ring.{CommRing, HeldLaws}
 use Rattle.algebra.proofs.Held.{held_ring}
-use Rattle.cyclotomic.specs.Cyclotomic.{R, IsElement, multiple}
-use Rattle.residue_rows.specs.Rows.{AreRows, are_rows, multiple_each}
+use Rattle.cyclotomic.specs.Cyclotomic.{IsElement}
+use Rattle.residue_rows.specs.Rows.{AreRows, are_rows}
 use Rattle.residue_rows.specs.RowLaws.{ResiduesKeep}
 use Rattle.residue_rows.specs.Kept.{RingSetting, IsSetting}
 use Rattle.residue_rows.specs.KeptLaws.{AreModuli}

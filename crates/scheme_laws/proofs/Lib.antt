@@ -3,3 +3,4 @@ pub mod Drawn
 pub mod NormCounts
 pub mod SizesMade
 pub mod Fresh
+pub mod Decrypting

@@ -10,8 +10,6 @@ use Rattle.slot_laws.specs.Slots.{encode}
 use Rattle.slot_laws.specs.SlotLaws.{IsPlaintext}
 use Rattle.slot_laws.proofs.Encoding.{encodes_slots}
 use Rattle.scheme_laws.specs.Scheme.{SchemeSetting, IsScheme}
-use Rattle.scheme_laws.specs.Keys.{n_of, IsSecret, IsError}
-use Rattle.scheme_laws.specs.Ciphers.{IsSmall}
 use Rattle.scheme_laws.specs.SchemeLaws.{NormCounts, NormCountsLaw}
 
 -- coefficients of at most b

@@ -1,5 +1,5 @@
 -- The sizes of an accepted table are in the ranges that its bounds are made from.
-use Rattle.std.specs.Prelude.{◌≡◌, ℕ, zero, suc, ◌+◌, ◌-◌, ◌*◌, ◌^◌, ◌<◌, ◌≤◌, true, false, cond, Bool, All, List, [], ◌∷◌, ◌++◌, map, length, get_or, replicate, ℤ, pos, nat_abs, refl}
+use Rattle.std.specs.Prelude.{◌≡◌, ℕ, zero, suc, ◌+◌, ◌-◌, ◌*◌, ◌^◌, ◌<◌, ◌≤◌, true, false, cond, Bool, All, List, ◌∷◌, ◌++◌, map, length, get_or, replicate, ℤ, pos, nat_abs, refl}
 use Rattle.std.proofs.Common.{arith, sym, ◌∙◌, ap, subst}
 use Rattle.std.proofs.lemmas.List.{length-map, length-replicate, get_or_append_left, get_or-append_right}
 use Rattle.std.proofs.lemmas.List.Elements.{All-map, All-from_get_or}

@@ -1,9 +1,8 @@
 -- What is said of keys and ciphertexts, for a scheme whose table has passed its checks.
-use Rattle.std.specs.Prelude.{◌≡◌, ℕ, suc, ◌+◌, ◌*◌, ◌/◌, ◌^◌, ◌<◌, ◌≤◌, List, length, ℤ, pos}
-use Rattle.algebra.specs.Ring.{whole_numbers}
+use Rattle.std.specs.Prelude.{◌≡◌, ℕ, ◌*◌, ◌/◌, ◌^◌, ◌<◌, ◌≤◌, List, ℤ, pos}
 use Rattle.cyclotomic.specs.Cyclotomic.{R, IsElement, multiple}
 use Rattle.cyclotomic.specs.Norm.{one_norm, height}
-use Rattle.draw_stream.specs.Draw.{Stream, errors_at, smalls_at}
+use Rattle.draw_stream.specs.Draw.{Stream, errors_at}
 use Rattle.slot_array.specs.Arrays.{Array, IsArray}
 use Rattle.slot_laws.specs.Slots.{encode}
 use Rattle.noise_bound.specs.Machine.{IsSizes}
