@@ -106,15 +106,19 @@ template_on name files = do
   text ← loaded (file_of Template name) files
   or_template (filled_of text)
 
--- `maketable SRC T`: a text of the table that the template is filled in to is saved under a name
--- that is free, where this table passes the checks of tables
+-- a text of the table is saved, where the table passes the checks of tables
+unfoldable pub save_table_on : FileName → Document → Result Wanted Cause
+save_table_on file table = do
+  setting ← or_else (λ fault. BadTable fault) (accepted table)
+  Ok (SavesTable file table)
+
+-- `maketable SRC T`: the table that the template is filled to is saved under a name that is free
 unfoldable pub make_table_on : List ℕ → List ℕ → List File → Result Wanted Cause
 make_table_on source table files = do
   filled ← template_on source files
   unused ← free (file_of Table table) files
   document ← or_else (λ i. NoRoot i) filled
-  setting ← or_else (λ fault. BadTable fault) (accepted document)
-  Ok (SavesTable (file_of Table table) document)
+  save_table_on (file_of Table table) document
 
 abbrev pub command_on : Command → List File → Result Wanted Cause
 command_on (Clear table program names) files = clear_on table program names files

@@ -1,2 +1,3 @@
 pub mod ClauseLaws
 pub mod Headline
+pub mod Making

@@ -1,8 +1,10 @@
 //! The commands of tables.
-ghost use Rattle.std.specs.Prelude.{◌≡◌, false, IfErr, IfOk, IsTrue};
+ghost use Rattle.std.specs.Prelude.{◌≡◌, false, IfErr, IfOk, IsTrue, Ok};
 ghost use Rattle.cli_machine.specs.Clauses.{faulted, is_shelf_fault, Counts, Fills, Gives, IsFree, IsOfReading, Meets};
 ghost use Rattle.cli_machine.specs.Effects.{left_by};
-ghost use Rattle.cli_machine.specs.Machine.{make_table_on, or_template, summarise_on, template_on};
+ghost use Rattle.cli_machine.specs.Machine.{make_table_on, or_template, save_table_on, summarise_on, template_on};
+ghost use Rattle.cli_machine.specs.declared.effect.Effect.TheVariants.{Saves};
+ghost use Rattle.table_keys.specs.Documents.{Document, document_of};
 ghost use Rattle.table_maker.specs.Filled.{filled_of};
 
 use crate::reading::{free, load, table, table_in};
@@ -49,7 +51,20 @@ pub fn make_table<S: Shelf>(
         kind: FileKind::Table,
     };
     free(alloc, shelf, &file)?;
-    let text = filled.map_err(|i| Cause::NoRoot { i })?;
+    match filled {
+        Ok(text) => save_table(alloc, file, text),
+        Err(i) => Err(Cause::NoRoot { i }),
+    }
+}
+
+/// Saves the text of a table, where the table passes the checks of tables.
+#[tactic(auto, unfolding(cli_machine::specs::Machine::save_table_on), using(crate::proofs::Making::table_of_text))]
+fn save_table(alloc: Global, file: FileName, text: Vec<u8>) -> Result<Effect, Cause>
+    ensures gives { (table : Document) → document_of text.items ≡ Ok table → Meets result (save_table_on file table) }
+    ensures file { IfOk result (λ effect. effect ≡ Saves file text.items) }
+    ensures counts { faulted is_shelf_fault result ≡ false }
+    ensures cause { IfErr result IsOfReading }
+{
     table_in(alloc, text.as_slice())?;
     Ok(Effect::Saves {
         file,
