@@ -63,14 +63,18 @@ fn powers(rt: HostRuntime) -> Result<(), Fail> {
         );
     }
 
-    // 1 + y*y + x*y^2 is x, and 1 + y + x
+    // 1 + y*y + x*y^2 is x
     let one = ring.one(alloc)?;
     let first = power(alloc, &ring, &y, 1)?;
     let second = power(alloc, &ring, &y, 2)?;
-    let list = Vec::from_array(alloc, [one, first, second])?;
-    let value = horner(alloc, &ring, &list, &y)?;
-    let total = sum(alloc, &ring, &list)?;
+    let coeffs = Vec::from_array(alloc, [one, first, second])?;
+    let value = horner(alloc, &ring, &coeffs, &y)?;
     assert_eq!(rt; numbers(alloc, &value)?.as_slice(), [0, 1, 0, 0].as_slice());
-    assert_eq!(rt; numbers(alloc, &total)?.as_slice(), [1, 1, 1, 0].as_slice());
+    // 1 + y^3
+    let one = ring.one(alloc)?;
+    let third = power(alloc, &ring, &y, 3)?;
+    let list = Vec::from_array(alloc, [one, third])?;
+    let total = sum(alloc, &ring, &list)?;
+    assert_eq!(rt; numbers(alloc, &total)?.as_slice(), [1, 0, 0, 1].as_slice());
     Ok(())
 }
