@@ -2,6 +2,7 @@
 #![tactic(auto)]
 
 mod faults;
+mod fields;
 mod headers;
 
 pub use faults::ReadFault;
