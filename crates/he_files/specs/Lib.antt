@@ -5,3 +5,4 @@ pub mod Secret
 pub mod Polynomial
 pub mod PublicFile
 pub mod CipherFile
+pub mod FileLaws

@@ -4,6 +4,8 @@
 mod faults;
 mod fields;
 mod headers;
+mod laws;
 
 pub use faults::ReadFault;
 pub use headers::{Header, read_header};
+pub use laws::{law_cipher, law_header, law_public, law_secret};
