@@ -42,7 +42,7 @@ module _ (t : SchemeSetting) where
   encrypted key r e0 e1 x =
       let l = top t.ring in
       let o = ring_at t.ring l in
-      let p_times = λ e. multiple_each (moduli_at t.ring l) (pos t.ring.moduli.p) (rows_at t.ring l e) in
+      let p_times : List ℤ → List (List ℕ) = λ e. multiple_each (moduli_at t.ring l) (pos t.ring.moduli.p) (rows_at t.ring l e) in
       record {
         level = l;
         bound = fresh (sizes_of t.ring);
