@@ -1,0 +1,4 @@
+pub mod Results
+pub mod Forms
+pub mod Loops
+pub mod ChainModuli
