@@ -1,5 +1,5 @@
 -- Ciphertexts: encryption, decryption, and what a ciphertext stands for.
-use Rattle.std.specs.Prelude.{◌≡◌, ℕ, suc, ◌+◌, ◌*◌, ◌≤◌, ◌<◌, List, length, All, ℤ, pos, nat_abs}
+use Rattle.std.specs.Prelude.{◌≡◌, ℕ, suc, ◌+◌, ◌*◌, ◌≤◌, List, length, All, ℤ, pos, nat_abs}
 use Rattle.cyclotomic.specs.Cyclotomic.{IsElement}
 use Rattle.cyclotomic.specs.Norm.{NormAtMost}
 use Rattle.draw_stream.specs.Draw.{Stream, errors_at, smalls_at}
@@ -42,7 +42,7 @@ module _ (t : SchemeSetting) where
   encrypted key r e0 e1 x =
       let l = top t.ring in
       let o = ring_at t.ring l in
-      let p_times = λ e. multiple_each (moduli_at t.ring l) (pos t.ring.moduli.p) (rows_at t.ring l e) in
+      let p_times : List ℤ → List (List ℕ) = λ e. multiple_each (moduli_at t.ring l) (pos t.ring.moduli.p) (rows_at t.ring l e) in
       record {
         level = l;
         bound = fresh (sizes_of t.ring);
