@@ -1,7 +1,7 @@
 -- Fields as forms: fixed texts, bytes, numbers of four and of eight bytes.
-use Rattle.std.proofs.Common.{◌≡◌, ℕ, ◌^◌, ◌<◌, Bool, true, cond, List, [], ◌∷◌, length, get_or, Option, Some, None, refl, sym, ap, subst, ◌∙◌, inl, inr, lit<, arith}
+use Rattle.std.proofs.Common.{◌≡◌, ℕ, ◌^◌, ◌<◌, Bool, cond, List, [], ◌∷◌, length, get_or, Some, None, refl, sym, ap, subst, ◌∙◌, inl, inr, lit<, arith}
 use Rattle.std.specs.Prelude.{IsTrue}
-use Rattle.std.specs.Int.{Width, w32, w64, byte_len, from_le_bytes, to_le_bytes}
+use Rattle.std.specs.Int.{Width, w32, w64, byte_len, from_le_bytes}
 use Rattle.std.specs.Str.{bytes_eq}
 use Rattle.std.proofs.lemmas.Bool.{cases_lt}
 use Rattle.std.proofs.lemmas.List.{get_or_past}
@@ -9,7 +9,7 @@ use Rattle.std.proofs.lemmas.Slice.Eq.{bytes_eq-Decides}
 use Rattle.std.proofs.lemmas.Nat.{le_bytes_4, le_bytes_8, from_le_bytes-to_le_bytes_4, from_le_bytes-to_le_bytes_8}
 use Rattle.he_files.specs.Form.{only, fixed, allowed_byte, byte, number_bytes, allowed_number, number}
 use Rattle.he_files.specs.FileLaws.{AreBytes}
-use Rattle.he_files.proofs.Forms.{IsForm, IsField, field_is, let_through}
+use Rattle.he_files.proofs.Forms.{IsForm, field_is, let_through}
 
 -- a text of the field's width
 pub fixed_is : (width : ℕ) (text : List ℕ) → IsForm (fixed width text) (λ _. length text ≡ width)
@@ -18,8 +18,8 @@ fixed_is width text = field_is width (λ _. text) (only text) (λ _. length text
   long = λ _ long. long;
   again = λ _ _. ap (λ b. cond b (Some tt) None) ((bytes_eq-Decides text text).1 refl);
   found = λ front _ all long e.
-    let same : front ≡ text = (bytes_eq-Decides front text).0 (let_through (bytes_eq front text) tt tt e).0 in
-    (subst (λ (t : List ℕ). length t ≡ width) same long, sym same);
+      let same : front ≡ text = (bytes_eq-Decides front text).0 (let_through (bytes_eq front text) tt tt e).0 in
+      (subst (λ (t : List ℕ). length t ≡ width) same long, sym same);
 })
 
 -- a byte that passes a test
@@ -37,8 +37,8 @@ byte_is test = field_is 1 (λ n. n ∷ []) (allowed_byte test) (IsAllowedByte te
   long = λ _ _. refl;
   again = λ n fits. ap (λ b. cond b (Some n) None) fits;
   found = λ front n all long e.
-    let g = let_through (test (get_or front 0 0)) (get_or front 0 0) n e in
-    (subst (λ k. IsTrue (test k)) g.1 g.0, ap (λ k. k ∷ []) (sym g.1) ∙ sym (one_byte front long));
+      let g = let_through (test (get_or front 0 0)) (get_or front 0 0) n e in
+      (subst (λ k. IsTrue (test k)) g.1 g.0, ap (λ k. k ∷ []) (sym g.1) ∙ sym (one_byte front long));
 })
 
 -- what the bytes of a number have to be
@@ -85,9 +85,10 @@ number_is w limit test wide = field_is (byte_len w) (number_bytes w) (allowed_nu
   long = λ n _. wide.long n;
   again = λ n fits. rw (wide.again n fits.below) (ap (λ b. cond b (Some n) None) fits.passes);
   found = λ front n all long e.
-    let g = let_through (test (from_le_bytes w front)) (from_le_bytes w front) n e in
-    (record { below = subst (λ k. k < limit) g.1 (wide.below front long all); passes = subst (λ k. IsTrue (test k)) g.1 g.0 },
-      ap (number_bytes w) (sym g.1) ∙ wide.back front long all);
+      let g = let_through (test (from_le_bytes w front)) (from_le_bytes w front) n e in (
+        record { below = subst (λ k. k < limit) g.1 (wide.below front long all); passes = subst (λ k. IsTrue (test k)) g.1 g.0 },
+        ap (number_bytes w) (sym g.1) ∙ wide.back front long all,
+      );
 })
 
 pub number32_is : (test : ℕ → Bool) → IsForm (number w32 test) (IsAllowedNumber (2 ^ 32) test)

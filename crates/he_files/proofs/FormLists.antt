@@ -1,7 +1,7 @@
 -- Lists of values as forms.
-use Rattle.std.proofs.Common.{◌≡◌, ℕ, zero, suc, ◌+◌, ◌<◌, ◌≤◌, List, [], ◌∷◌, ◌++◌, length, drop, Result, Ok, Err, refl, sym, ap, subst, ◌∙◌, append_assoc, add_assoc, arith}
+use Rattle.std.proofs.Common.{◌≡◌, ℕ, zero, suc, ◌+◌, ◌≤◌, List, [], ◌∷◌, ◌++◌, length, drop, Ok, refl, ap, subst, arith}
 use Rattle.std.specs.List.{flat_map, AllByRecursion, AllZip}
-use Rattle.std.proofs.lemmas.List.{length-append, append-nil}
+use Rattle.std.proofs.lemmas.List.{length-append}
 use Rattle.he_files.specs.Form.{◌>>=◌, Form, several_at, several, each_spelled, each_at, each, written_as}
 use Rattle.he_files.specs.FileLaws.{AreBytes}
 use Rattle.he_files.proofs.Forms.{IsForm, Found, StandsAt, step_ok, ok_is, stands_first, stands_second, found_inside, found_after}
@@ -34,7 +34,7 @@ module _ {A : Type 0} (form : Form A) (Fits : A → Type 0) (is : IsForm form Fi
   unfolding several_at
   several_found zero bytes at y all inside e =
       subst (Found (several zero form) (AreSeveral Fits zero) bytes at) (ok_is ([], at) y e)
-        (record { rest = drop at bytes; stands = nothing_here bytes at inside; end = omega arith; fits = record { long = refl; each = tt } })
+      (record { rest = drop at bytes; stands = nothing_here bytes at inside; end = omega arith; fits = record { long = refl; each = tt } })
   several_found (suc n) bytes at y all inside e =
       let a = step_ok (form.read bytes at) (λ x. several_at form n bytes x.1 >>= λ xs. Ok (x.0 ∷ xs.0, xs.1)) y e in
       let first = is.found bytes at a.0 all inside a.1 in
@@ -72,7 +72,7 @@ module _ {S A : Type 0} (form : S → Form A) (Fits : S → A → Type 0) (is : 
   unfolding each_at each_spelled
   each_found [] bytes at y all inside e =
       subst (Found (each form []) (AllZip Fits []) bytes at) (ok_is ([], at) y e)
-        (record { rest = drop at bytes; stands = nothing_here bytes at inside; end = omega arith; fits = tt })
+      (record { rest = drop at bytes; stands = nothing_here bytes at inside; end = omega arith; fits = tt })
   each_found (x ∷ xs) bytes at y all inside e =
       let a = step_ok ((form x).read bytes at) (λ v. each_at form xs bytes v.1 >>= λ vs. Ok (v.0 ∷ vs.0, vs.1)) y e in
       let first = (is x).found bytes at a.0 all inside a.1 in
@@ -100,12 +100,12 @@ pub written_as_is : {A B : Type 0} (back : B → A) (forth : A → B) (form : Fo
 written_as_is {A} back forth form Fits Seen is goes = record {
   again = λ bytes at y rest seen s. rw (is.again bytes at (back y) rest (goes.fits y seen) s, goes.same y seen) refl;
   found = λ bytes at y all inside e.
-    let a = step_ok (form.read bytes at) (λ (x : A × ℕ). Ok (forth x.0, x.1)) y e in
-    let f = is.found bytes at a.0 all inside a.1 in
-    subst (Found (written_as back forth form) Seen bytes at) (ok_is (forth a.0.0, a.0.1) y a.2) (record {
-      rest = f.rest;
-      stands = rw (goes.again a.0.0 f.fits) f.stands;
-      end = rw (goes.again a.0.0 f.fits) f.end;
-      fits = goes.seen a.0.0 f.fits;
-    });
+      let a = step_ok (form.read bytes at) (λ (x : A × ℕ). Ok (forth x.0, x.1)) y e in
+      let f = is.found bytes at a.0 all inside a.1 in
+      subst (Found (written_as back forth form) Seen bytes at) (ok_is (forth a.0.0, a.0.1) y a.2) (record {
+        rest = f.rest;
+        stands = rw (goes.again a.0.0 f.fits) f.stands;
+        end = rw (goes.again a.0.0 f.fits) f.end;
+        fits = goes.seen a.0.0 f.fits;
+      });
 }

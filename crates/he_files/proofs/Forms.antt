@@ -1,15 +1,9 @@
 -- Forms that spell and read one another: what was spelled is read again, and what is read was spelled so.
-use Rattle.std.proofs.Common.{◌≡◌, ℕ, zero, suc, ◌+◌, ◌^◌, ◌<◌, ◌≤◌, Bool, true, false, cond, ltb, eqb, List, [], ◌∷◌, ◌++◌, length, get_or, take, drop, All, Option, Some, None, Result, Ok, Err, refl, sym, ap, subst, ◌∙◌, append_assoc, add_assoc, arith}
-use Rattle.std.specs.Prelude.{IsTrue}
-use Rattle.std.specs.Int.{Width, w32, w64, byte_len, from_le_bytes, to_le_bytes}
-use Rattle.std.specs.List.{flat_map, AllByRecursion, AllZip}
-use Rattle.std.specs.Str.{bytes_eq}
-use Rattle.std.proofs.lemmas.Slice.Eq.{bytes_eq-Decides}
-use Rattle.std.proofs.lemmas.Bool.{ltb-false, le-ltb, eqb-true, eq-eqb}
-use Rattle.std.proofs.lemmas.List.{take_at, drop_at, drop-drop, take-append-drop, length-append, length-take, length-drop, get_or-drop, get_or-take, append-nil}
-use Rattle.std.proofs.lemmas.List.Elements.{All-drop, All-take}
-use Rattle.std.proofs.lemmas.Nat.{le_bytes_4, le_bytes_8, from_le_bytes-to_le_bytes_4, from_le_bytes-to_le_bytes_8}
-use Rattle.he_files.specs.Form.{◌>>=◌, Form, bytes_at, or_at, field_at, field, only, fixed, allowed_byte, byte, number_bytes, allowed_number, number, several_at, several, each_spelled, each_at, each, written_as, ended}
+use Rattle.std.proofs.Common.{◌≡◌, ℕ, ◌+◌, ◌<◌, ◌≤◌, Bool, true, false, cond, ltb, List, [], ◌++◌, length, get_or, take, drop, Option, Some, None, Result, Ok, Err, refl, sym, ap, subst, ◌∙◌, append_assoc, arith}
+use Rattle.std.proofs.lemmas.Bool.{ltb-false, le-ltb}
+use Rattle.std.proofs.lemmas.List.{take_at, drop_at, drop-drop, take-append-drop, length-append, length-take, length-drop, append-nil}
+use Rattle.std.proofs.lemmas.List.Elements.{All-drop, All-take, All-from_get_or}
+use Rattle.he_files.specs.Form.{◌>>=◌, Form, bytes_at, or_at, field_at, field}
 use Rattle.he_files.specs.FileLaws.{AreBytes}
 
 -- ---- results
@@ -44,6 +38,10 @@ let_through false x y e = absurd cc
 allowed : {A : Type 0} (at : ℕ) (o : Option A) (x : A) → or_at at o ≡ Ok x → o ≡ Some x
 allowed at (Some x) y e = ap (λ z. Some z) (ok_is x y e)
 allowed at None y e = absurd cc
+
+-- bytes, from what is known at each place
+pub bytes_are : (bytes : List ℕ) → ((i : ℕ) → get_or bytes i 0 < 256) → AreBytes bytes
+bytes_are bytes fits = All-from_get_or (λ b. b < 256) bytes 0 (λ i _. fits i)
 
 -- ---- places in a file
 
@@ -117,27 +115,29 @@ bytes_found : (width : ℕ) (bytes : List ℕ) (at : ℕ) (text : List ℕ) → 
 unfolding bytes_at
 bytes_found width bytes at text inside e =
     let g = not_cut (ltb (length bytes) (at + width)) at (take width (drop at bytes)) text e in
-    let long : at + width ≤ length bytes = ltb-false _ _ g.0 in
-    (rw (← g.1) (omega (arith, length-take width (drop at bytes), length-drop at bytes)), sym g.1,
-      record { inside = inside; here = rw (← g.1) (sym (take-append-drop width (drop at bytes))) })
+    let long : at + width ≤ length bytes = ltb-false _ _ g.0 in (
+      rw (← g.1) (omega (arith, length-take width (drop at bytes), length-drop at bytes)),
+      sym g.1,
+      record { inside = inside; here = rw (← g.1) (sym (take-append-drop width (drop at bytes))) },
+    )
 
 pub field_is : {A : Type 0} (width : ℕ) (spelled : A → List ℕ) (value : List ℕ → Option A) (Fits : A → Type 0) → IsField width spelled value Fits → IsForm (field width spelled value) Fits
 unfolding field_at
 field_is width spelled value Fits f = record {
   again = λ bytes at x rest fits s.
-    let long = f.long x fits in
-    rw (bytes_again width bytes at (spelled x) rest long s, f.again x fits, long) refl;
+      let long = f.long x fits in
+      rw (bytes_again width bytes at (spelled x) rest long s, f.again x fits, long) refl;
   found = λ bytes at y all inside e.
-    let a = step_ok (bytes_at width bytes at) (λ front. or_at at (value front) >>= λ x. Ok (x, at + width)) y e in
-    let b = step_ok (or_at at (value a.0)) (λ x. Ok (x, at + width)) y a.2 in
-    let is = ok_is (b.0, at + width) y b.2 in
-    let t = bytes_found width bytes at a.0 inside a.1 in
-    let fine : AreBytes a.0 = subst AreBytes (sym t.1) (All-take (λ b. b < 256) width (drop at bytes) (All-drop (λ b. b < 256) at bytes all)) in
-    let found = f.found a.0 b.0 fine t.0 (allowed at (value a.0) b.0 b.1) in
-    subst (Found (field width spelled value) Fits bytes at) is (record {
-      rest = drop width (drop at bytes);
-      stands = rw found.1 t.2;
-      end = rw (found.1, t.0) refl;
-      fits = found.0;
-    });
+      let a = step_ok (bytes_at width bytes at) (λ front. or_at at (value front) >>= λ x. Ok (x, at + width)) y e in
+      let b = step_ok (or_at at (value a.0)) (λ x. Ok (x, at + width)) y a.2 in
+      let is = ok_is (b.0, at + width) y b.2 in
+      let t = bytes_found width bytes at a.0 inside a.1 in
+      let fine : AreBytes a.0 = subst AreBytes (sym t.1) (All-take (λ b. b < 256) width (drop at bytes) (All-drop (λ b. b < 256) at bytes all)) in
+      let found = f.found a.0 b.0 fine t.0 (allowed at (value a.0) b.0 b.1) in
+      subst (Found (field width spelled value) Fits bytes at) is (record {
+        rest = drop width (drop at bytes);
+        stands = rw found.1 t.2;
+        end = rw (found.1, t.0) refl;
+        fits = found.0;
+      });
 }

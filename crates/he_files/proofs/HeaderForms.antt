@@ -1,15 +1,15 @@
 -- Headers that are read were spelled so, and spelled headers are read again.
-use Rattle.std.proofs.Common.{◌≡◌, ℕ, ◌+◌, ◌<◌, ◌≤◌, Bool, true, ◌&&◌, List, [], ◌∷◌, ◌++◌, length, All, Option, Some, None, Result, Ok, Err, refl, sym, ap, subst, ◌∙◌, append_assoc, arith}
+use Rattle.std.proofs.Common.{◌≡◌, ℕ, ◌+◌, ◌&&◌, List, [], ◌∷◌, ◌++◌, length, Option, Some, None, Ok, refl, sym, ap, subst, ◌∙◌, append_assoc, arith}
 use Rattle.std.specs.Prelude.{IsTrue, IsSome, nat_le, codes, option_to_list}
-use Rattle.std.proofs.lemmas.Bool.{and_parts, leb-true, le-leb}
+use Rattle.std.proofs.lemmas.Bool.{and_parts}
 use Rattle.std.proofs.lemmas.List.{length-append}
 use Rattle.line_text.specs.declared.kinds.FileKind.{FileKind}
-use Rattle.line_text.specs.Names.{is_name, IsName, name_of, is_name_byte}
+use Rattle.line_text.specs.Names.{is_name, IsName, name_of}
 use Rattle.he_files.specs.declared.headers.Header.{Header}
-use Rattle.he_files.specs.Form.{◌>>=◌, Form, field, fixed, byte}
-use Rattle.he_files.specs.Header.{kind_byte, mark, kind, format, name_length, name_bytes, name_at, name, header_bytes, header_of}
+use Rattle.he_files.specs.Form.{byte}
+use Rattle.he_files.specs.Header.{kind_byte, mark, kind, format, name_bytes, name_at, name, header_bytes, header_of}
 use Rattle.he_files.specs.FileLaws.{AreBytes, AreNames, header_length, BeginsWith, HeadersAre}
-use Rattle.he_files.proofs.Forms.{IsForm, IsField, Found, StandsAt, field_is, step_ok, ok_is, let_through, length_here, stands_first, stands_second, found_inside, found_after}
+use Rattle.he_files.proofs.Forms.{IsForm, StandsAt, field_is, step_ok, ok_is, let_through, stands_first, stands_second, found_inside, found_after}
 use Rattle.he_files.proofs.FieldForms.{fixed_is, byte_is}
 
 -- ---- names
@@ -20,8 +20,8 @@ name_bytes_is n = field_is n (λ x. x) name_of (λ x. IsName x × (length x ≡ 
   long = λ x fits. fits.1;
   again = λ x fits. rw fits.0 refl;
   found = λ front x all long e.
-    let g = let_through (is_name front) front x e in
-    ((subst (λ (t : List ℕ). IsName t) g.1 g.0, subst (λ (t : List ℕ). length t ≡ n) g.1 long), sym g.1);
+      let g = let_through (is_name front) front x e in
+      ((subst (λ (t : List ℕ). IsName t) g.1 g.0, subst (λ (t : List ℕ). length t ≡ n) g.1 long), sym g.1);
 })
 
 -- the length of a name is one that a file can spell
@@ -33,21 +33,21 @@ pub name_is : IsForm name IsName
 unfolding name_at
 name_is = record {
   again = λ bytes at x rest fits s.
-    let n = length x in
-    let first = (byte_is (λ n. nat_le 1 n && nat_le n 64)).again bytes at n (x ++ rest) (name_long x fits) (stands_first bytes at (n ∷ []) x rest s) in
-    let second = (name_bytes_is n).again bytes (at + 1) x rest (fits, refl) (stands_second bytes at (n ∷ []) x rest s) in
-    rw (first, second) (ap (λ k. Ok (x, k)) (omega arith));
+      let n = length x in
+      let first = (byte_is (λ n. nat_le 1 n && nat_le n 64)).again bytes at n (x ++ rest) (name_long x fits) (stands_first bytes at (n ∷ []) x rest s) in
+      let second = (name_bytes_is n).again bytes (at + 1) x rest (fits, refl) (stands_second bytes at (n ∷ []) x rest s) in
+      rw (first, second) (ap (λ k. Ok (x, k)) (omega arith));
   found = λ bytes at y all inside e.
-    let form = byte (λ n. nat_le 1 n && nat_le n 64) in
-    let a = step_ok (form.read bytes at) (λ n. (name_bytes n.0).read bytes n.1) y e in
-    let first = (byte_is (λ n. nat_le 1 n && nat_le n 64)).found bytes at a.0 all inside a.1 in
-    let second = (name_bytes_is a.0.0).found bytes a.0.1 y all (found_inside form _ bytes at a.0 first) a.2 in
-    record {
-      rest = second.rest;
-      stands = rw second.fits.1 (found_after form _ bytes at a.0 y.0 second.rest first second.stands);
-      end = omega (arith, first.end, second.end);
-      fits = second.fits.0;
-    };
+      let form = byte (λ n. nat_le 1 n && nat_le n 64) in
+      let a = step_ok (form.read bytes at) (λ n. (name_bytes n.0).read bytes n.1) y e in
+      let first = (byte_is (λ n. nat_le 1 n && nat_le n 64)).found bytes at a.0 all inside a.1 in
+      let second = (name_bytes_is a.0.0).found bytes a.0.1 y all (found_inside form _ bytes at a.0 first) a.2 in
+      record {
+        rest = second.rest;
+        stands = rw second.fits.1 (found_after form _ bytes at a.0 y.0 second.rest first second.stands);
+        end = omega (arith, first.end, second.end);
+        fits = second.fits.0;
+      };
 }
 
 -- ---- headers

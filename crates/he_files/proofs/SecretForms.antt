@@ -1,16 +1,15 @@
 -- Secrets that are read were spelled so, and spelled secrets are read again.
-use Rattle.std.proofs.Common.{◌≡◌, ℕ, zero, suc, ◌+◌, ◌-◌, ◌<◌, ◌≤◌, Bool, true, false, not, cond, eqb, leb, ◌&&◌, List, [], ◌∷◌, ◌++◌, ◌⊎◌, length, get_or, map, drop, Option, Some, None, Result, Ok, Err, ℤ, pos, negsuc, refl, sym, ap, subst, ◌∙◌, append_assoc, inl, inr, arith}
-use Rattle.std.specs.Prelude.{IsTrue, All, option_and_then, unsigned_abs, count_by}
+use Rattle.std.proofs.Common.{◌≡◌, ℕ, zero, suc, ◌+◌, ◌-◌, ◌≤◌, Bool, true, false, not, cond, eqb, leb, ◌&&◌, List, [], ◌∷◌, ◌++◌, ◌⊎◌, length, get_or, map, drop, Option, Some, None, Ok, ℤ, pos, negsuc, refl, sym, ap, subst, ◌∙◌, inl, inr, arith}
+use Rattle.std.specs.Prelude.{option_and_then, unsigned_abs, count_by}
 use Rattle.std.specs.List.{AllByRecursion}
-use Rattle.std.proofs.lemmas.Bool.{cond_both, and_parts, and_from, leb-true, le-leb, eqb-true, eq-eqb}
-use Rattle.std.proofs.lemmas.List.{length-append, append-nil}
+use Rattle.std.proofs.lemmas.Bool.{cond_both, and_parts, and_from, leb-true, le-leb, eqb-true}
 use Rattle.std.proofs.lemmas.List.Recursion.{is_count_by}
 use Rattle.std.proofs.lemmas.List.Elements.{All-from_recursion, recursion_from_All}
 use Rattle.draw_stream.specs.Sparse.{IsSparse}
-use Rattle.he_files.specs.Form.{◌>>=◌, Form, field}
+use Rattle.he_files.specs.Form.{◌>>=◌}
 use Rattle.he_files.specs.Secret.{entry_byte, entry_of, taken, allowed_entry, entry, entries_at, entries}
 use Rattle.he_files.specs.FileLaws.{AreBytes}
-use Rattle.he_files.proofs.Forms.{IsForm, IsField, Found, StandsAt, field_is, step_ok, ok_is, let_through, stands_first, stands_second, found_inside, found_after}
+use Rattle.he_files.proofs.Forms.{IsForm, Found, StandsAt, field_is, step_ok, ok_is, let_through, stands_first, stands_second, found_inside, found_after}
 
 -- an entry that leaves so much of the weight to so many entries
 pub record IsEntry (weight left : ℕ) (x : ℤ) : Type 0 where
@@ -64,12 +63,12 @@ entry_is weight left =
       long = λ _ _. refl;
       again = λ x fits. rw (entry_again x fits.small) (ap (λ b. cond b (Some x) None) (and_from (leb (taken x) weight) (leb (weight - taken x) left) (le-leb _ _ fits.light) (le-leb _ _ fits.enough)));
       found = λ front x all long e.
-        let t = then_found (λ x. cond (fine x) (Some x) None) (entry_of (get_or front 0 0)) x e in
-        let g = let_through (fine t.0) t.0 x t.2 in
-        let own = entry_found (get_or front 0 0) t.0 t.1 in
-        let parts = and_parts (leb (taken t.0) weight) (leb (weight - taken t.0) left) g.0 in
-        let fits : IsEntry weight left t.0 = record { small = own.0; light = leb-true _ _ parts.0; enough = leb-true _ _ parts.1 } in
-        (subst (IsEntry weight left) g.1 fits, ap (λ z. entry_byte z ∷ []) (sym g.1) ∙ ap (λ b. b ∷ []) own.1 ∙ sym (one_byte front long));
+          let t = then_found (λ x. cond (fine x) (Some x) None) (entry_of (get_or front 0 0)) x e in
+          let g = let_through (fine t.0) t.0 x t.2 in
+          let own = entry_found (get_or front 0 0) t.0 t.1 in
+          let parts = and_parts (leb (taken t.0) weight) (leb (weight - taken t.0) left) g.0 in
+          let fits : IsEntry weight left t.0 = record { small = own.0; light = leb-true _ _ parts.0; enough = leb-true _ _ parts.1 } in
+          (subst (IsEntry weight left) g.1 fits, ap (λ z. entry_byte z ∷ []) (sym g.1) ∙ ap (λ b. b ∷ []) own.1 ∙ sym (one_byte front long));
     })
 
 -- ---- lists of entries
@@ -116,7 +115,7 @@ entries_found : (n weight : ℕ) (bytes : List ℕ) (at : ℕ) (y : List ℤ × 
 unfolding entries_at
 entries_found zero weight bytes at y le all inside e =
     subst (Found (entries zero weight) (AreEntries zero weight) bytes at) (ok_is ([], at) y e)
-      (record { rest = drop at bytes; stands = record { inside = inside; here = refl }; end = omega arith; fits = record { long = refl; takes = omega arith; small = tt } })
+    (record { rest = drop at bytes; stands = record { inside = inside; here = refl }; end = omega arith; fits = record { long = refl; takes = omega arith; small = tt } })
 entries_found (suc n) weight bytes at y le all inside e =
     let form = entry weight n in
     let a = step_ok (form.read bytes at) (λ x. entries_at n (weight - taken x.0) bytes x.1 >>= λ xs. Ok (x.0 ∷ xs.0, xs.1)) y e in

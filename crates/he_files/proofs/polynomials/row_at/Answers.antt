@@ -10,7 +10,7 @@ returns-in_err-residue_at-clause-value c =
     let p = err_from_is_err_and c.from_residual.result c.from_residual.ensures.1 in
     let fault = c.in_err-residue_at.field-0.0 in
     rw (p.1, p.2) (subst (λ (r : Result (List ℕ × ℕ) ℕ). Fails fault r) c.loop.invariant.told
-      (several-fault (residue c.args.q) c.args.bytes.now fault c.loop.row.items c.args.n c.loop.counter c.loop.at c.loop-test.true c.in_err-residue_at.ensures.value))
+    (several-fault (residue c.args.q) c.args.bytes.now fault c.loop.row.items c.args.n c.loop.counter c.loop.at c.loop-test.true c.in_err-residue_at.ensures.value))
 
 pub loop-preserved : goal.loop-preserved
 loop-preserved c =

@@ -1,7 +1,6 @@
-use Rattle.std.proofs.Common.{◌≡◌, ℕ, ◌+◌, ◌<◌, ◌≤◌, ◌∙◌, sym, subst, ap, map, take, length, get_or, List, Result, arith, rules}
+use Rattle.std.proofs.Common.{◌≡◌, ℕ, ◌<◌, ◌≤◌, ◌∙◌, sym, subst, ap, map, take, length, get_or, List, Result, arith}
 use Rattle.std.proofs.lemmas.Result.{err_from_is_err_and}
 use Rattle.std.proofs.lemmas.List.{map_push}
-use Rattle.moduli_table.specs.Chain.{modulus_at}
 use Rattle.he_files.specs.Form.{several}
 use Rattle.he_files.specs.Polynomial.{residue}
 use Rattle.he_files.specs.Reads.{Fails}
@@ -19,7 +18,7 @@ returns-in_err-row-clause-value c =
     let inside : c.loop-i.i < length qs = omega (arith, moduli_length chain c.args.count c.requires.few) in
     let is : get_or qs c.loop-i.i q ≡ q = modulus_is chain c.args.count c.loop-i.i q c.loop-i-test.true c.requires.few ∙ sym (ap (λ r. r.q) c.row.ensures.value) in
     rw (p.1, p.2) (subst (λ (r : Result (List (List ℕ) × ℕ) ℕ). Fails fault r) c.loop-i.invariant.told
-      (each-fault (λ q. several c.args.n (residue q)) qs c.args.bytes.now fault (map (λ row. row.items) c.loop-i.rows.items) c.loop-i.i c.loop-i.at q inside is c.in_err-row.ensures.value))
+    (each-fault (λ q. several c.args.n (residue q)) qs c.args.bytes.now fault (map (λ row. row.items) c.loop-i.rows.items) c.loop-i.i c.loop-i.at q inside is c.in_err-row.ensures.value))
 
 pub loop-i-preserved : goal.loop-i-preserved
 loop-i-preserved c =

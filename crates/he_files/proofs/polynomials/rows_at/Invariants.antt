@@ -1,4 +1,4 @@
-use Rattle.std.proofs.Common.{◌≡◌, ◌-◌, ◌<◌, ◌≤◌, length, drop, take, map, All}
+use Rattle.std.proofs.Common.{◌≡◌, ◌≤◌, length, drop, take, map}
 use Rattle.he_files.specs.Form.{several, each_at}
 use Rattle.he_files.specs.Polynomial.{residue}
 use Rattle.he_files.proofs.Loops.{with_front}

@@ -12,7 +12,7 @@ returns-in_err-entry-clause-value c =
     let p = err_from_is_err_and c.from_residual.result c.from_residual.ensures.1 in
     let fault = c.in_err-entry.field-0.0 in
     rw (p.1, p.2) (subst (λ (r : Result (List ℤ × ℕ) ℕ). Fails fault r) c.loop-i.invariant.told
-      (entries-fault fault c.loop-i.entries.items c.args.bytes.now c.args.n c.loop-i.i c.loop-i.weight c.loop-i.at c.loop-i-test.true c.in_err-entry.ensures.value))
+    (entries-fault fault c.loop-i.entries.items c.args.bytes.now c.args.n c.loop-i.i c.loop-i.weight c.loop-i.at c.loop-i-test.true c.in_err-entry.ensures.value))
 
 pub loop-i-preserved : goal.loop-i-preserved
 loop-i-preserved c =
