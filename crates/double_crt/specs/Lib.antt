@@ -1,5 +1,6 @@
 pub mod Bases
 pub mod Restricted
+pub mod ValueRows
 pub use Rattle.algebra.specs.Ring
 pub use Rattle.algebra.specs.Divisor
 pub use Rattle.cyclotomic.specs.Cyclotomic

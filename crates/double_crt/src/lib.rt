@@ -2,7 +2,9 @@
 #![tactic(auto)]
 
 mod dcrt;
+mod row;
 mod tables;
+mod words;
 
 pub use dcrt::Dcrt;
 pub use tables::RingTables;
