@@ -1,0 +1,3 @@
+pub mod RowsRing
+pub mod RowsResidues
+pub mod WholeRows
