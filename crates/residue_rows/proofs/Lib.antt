@@ -1,3 +1,9 @@
 pub mod RowsRing
 pub mod RowsResidues
 pub mod WholeRows
+pub mod ValuesSums
+pub mod ValuesRows
+pub mod ValuesMean
+pub mod ValuesKeep
+pub mod ModuliKept
+pub mod KeptValues
