@@ -2,6 +2,7 @@
 #![tactic(auto)]
 
 mod dcrt;
+mod line;
 mod row;
 mod tables;
 mod words;

@@ -1,5 +1,5 @@
 //! What is done to lists of residues modulo q, place by place.
-ghost use Rattle.std.specs.Prelude.{◌≡◌, ◌+◌, ◌-◌, ◌*◌, ◌%◌, ◌<◌, All, length, map};
+ghost use Rattle.std.specs.Prelude.{◌≡◌, ℕ, ◌+◌, ◌-◌, ◌*◌, ◌%◌, ◌<◌, ◌≤◌, All, length, map, get_or};
 ghost use Rattle.algebra.specs.Whole.{residue};
 ghost use Rattle.mod_ring.specs.Zq.{modulus_of};
 ghost use Rattle.residue_rows.specs.ValueLaws.{pointwise};
@@ -78,5 +78,64 @@ pub(crate) fn residues_into(ring: &Zq, from: &[i64], words: &mut [u64])
 {
     for i in 0..words.len() {
         words[i] = ring.from_signed(from[i]);
+    }
+}
+
+/// The number at a place, or 0 where there is none.
+fn word_or_zero(words: &[u64], place: u32) -> u64
+    ensures value { result ≡ get_or words.now place 0 }
+    ensures below { (q : ℕ) → 0 < q → All (λ c. c < q) words.now → result < q }
+{
+    let place = place as usize;
+    if place < words.len() { words[place] } else { 0 }
+}
+
+/// Writes the numbers at some places.
+pub(crate) fn pick_words(places: &[u32], from: &[u64], words: &mut [u64])
+    requires room { length words.old ≡ length places.now }
+    requires places_in { All (λ j. j < length from.now) places.now }
+    ensures value { words.new ≡ map (λ j. get_or from.now j 0) places.now }
+    ensures below { (q : ℕ) → All (λ c. c < q) from.now → All (λ c. c < q) words.new }
+{
+    for i in 0..words.len() {
+        words[i] = from[places[i] as usize];
+    }
+}
+
+/// Writes the numbers at some places, and 0 for each place that is not there.
+pub(crate) fn spread_words(places: &[u32], from: &[u64], words: &mut [u64])
+    requires { length words.old ≡ length places.now }
+    ensures value { words.new ≡ map (λ j. get_or from.now j 0) places.now }
+    ensures below { (q : ℕ) → 0 < q → All (λ c. c < q) from.now → All (λ c. c < q) words.new }
+{
+    for i in 0..words.len() {
+        words[i] = word_or_zero(from, places[i]);
+    }
+}
+
+/// The product of two numbers below m, modulo m.
+fn turned(unit: u32, k: u32, m: u32) -> u32
+    requires m_high { m ≤ 65536 }
+    requires unit_in { unit < m }
+    requires k_in { k < m }
+    ensures value { result ≡ (unit * k) % m }
+    ensures below { result < m }
+{
+    unit * k % m
+}
+
+/// Writes for each unit j the number at the place of j k modulo m.
+pub(crate) fn permute_words(k: u32, units: &[u32], places: &[u32], from: &[u64], words: &mut [u64])
+    requires m_high { length places.now ≤ 65536 }
+    requires k_in { k < length places.now }
+    requires room { length words.old ≡ length units.now }
+    requires units_in { All (λ j. j < length places.now) units.now }
+    requires places_in { All (λ j. get_or places.now ((j * k) % length places.now) 0 < length from.now) units.now }
+    ensures value { words.new ≡ map (λ j. get_or from.now (get_or places.now ((j * k) % length places.now) 0) 0) units.now }
+    ensures below { (q : ℕ) → All (λ c. c < q) from.now → All (λ c. c < q) words.new }
+{
+    let m = places.len() as u32;
+    for i in 0..words.len() {
+        words[i] = from[places[turned(units[i], k, m) as usize] as usize];
     }
 }
