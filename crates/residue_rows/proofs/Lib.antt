@@ -7,3 +7,6 @@ pub mod ValuesMean
 pub mod ValuesKeep
 pub mod ModuliKept
 pub mod KeptValues
+pub mod ValuesActions
+pub mod ValuesEach
+pub mod KeptCuts
