@@ -11,10 +11,8 @@ ghost use Rattle.double_crt.specs.Roots.{point_of};
 
 use crate::line::Line;
 use crate::words::{
-    add_words, mul_words, neg_words, permute_words, pick_words, residues_into, scale_words, spread_words,
-    sub_words,
+    add_words, mul_words, neg_words, permute_words, residues_into, scale_words, sub_words,
 };
-use bluestein::Scratch;
 use cyclo_poly::Cyclo;
 use mod_ring::Zq;
 use std::alloc::{AllocError, Global};
@@ -142,9 +140,8 @@ impl Row {
         requires room { length buffer.old ≡ line.now.m }
         ensures { OnOk result (self.new ≡ record { q = self.old.q; entries = values_of line.now.m (point_of line.now) self.old.entries }) }
     {
-        let mut scratch = Scratch::new(alloc, &line.plan)?;
-        line.plan.forward(&mut scratch, &self.words, buffer);
-        pick_words(units, buffer, &mut self.words);
+        let mut scratch = line.scratch(alloc)?;
+        line.to_values(&mut scratch, units, buffer, &mut self.words);
         Ok(())
     }
 
@@ -166,10 +163,8 @@ impl Row {
         requires coeffs_room { length coeffs.old ≡ line.now.m }
         ensures { IfOk result (λ row. row.items ≡ interpolated line.now.m (point_of line.now) self.now.entries) }
     {
-        let mut scratch = Scratch::new(alloc, &line.plan)?;
-        spread_words(places, &self.words, values);
-        line.plan.inverse(&mut scratch, values, coeffs);
-        cyclo.fold(&self.ring, coeffs);
+        let mut scratch = line.scratch(alloc)?;
+        line.coefficients(&mut scratch, cyclo, places, &self.words, values, coeffs);
         Vec::from_slice(alloc, &coeffs[..self.words.len()])
     }
 }
