@@ -1,3 +1,4 @@
 pub mod LineSteps
+pub mod ListSteps
 pub mod UnitSteps
 pub mod ValueSteps

@@ -111,7 +111,8 @@ impl Line {
         requires words_in { All (λ c. c < self.now.q) words.now }
         requires values_room { length values.old ≡ self.now.m }
         requires out_room { length out.old ≡ self.now.m }
-        ensures { take (length words.now) out.new ≡ interpolated self.now.m (point_of self.now) words.now }
+        ensures value { take (length words.now) out.new ≡ interpolated self.now.m (point_of self.now) words.now }
+        ensures fits { length words.now ≤ length out.new }
     {
         spread_words(places, words, values);
         self.plan.inverse(scratch, values, out);
