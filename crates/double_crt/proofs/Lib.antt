@@ -2,3 +2,4 @@ pub mod LineSteps
 pub mod ListSteps
 pub mod UnitSteps
 pub mod ValueSteps
+pub mod BasisSteps

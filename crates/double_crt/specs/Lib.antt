@@ -4,6 +4,7 @@ pub mod ModuloRows
 pub mod Places
 pub mod Roots
 pub mod Lines
+pub mod Tables
 pub use Rattle.algebra.specs.Ring
 pub use Rattle.algebra.specs.Divisor
 pub use Rattle.algebra.specs.Whole

@@ -3,6 +3,7 @@
 
 mod dcrt;
 mod line;
+mod makes;
 mod row;
 mod tables;
 mod words;
