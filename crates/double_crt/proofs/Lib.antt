@@ -3,3 +3,4 @@ pub mod ListSteps
 pub mod UnitSteps
 pub mod ValueSteps
 pub mod BasisSteps
+pub mod TableSteps
