@@ -5,6 +5,7 @@ mod dcrt;
 mod line;
 mod makes;
 mod row;
+mod rows;
 mod tables;
 mod words;
 
