@@ -4,3 +4,4 @@ pub mod UnitSteps
 pub mod ValueSteps
 pub mod BasisSteps
 pub mod TableSteps
+pub mod HeldSteps

@@ -5,6 +5,7 @@ pub mod Places
 pub mod Roots
 pub mod Lines
 pub mod Tables
+pub mod Held
 pub use Rattle.algebra.specs.Ring
 pub use Rattle.algebra.specs.Divisor
 pub use Rattle.algebra.specs.Whole

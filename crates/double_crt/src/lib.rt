@@ -2,6 +2,7 @@
 #![tactic(auto)]
 
 mod dcrt;
+mod fills;
 mod line;
 mod makes;
 mod row;
