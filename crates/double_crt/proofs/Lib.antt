@@ -5,3 +5,4 @@ pub mod ValueSteps
 pub mod BasisSteps
 pub mod TableSteps
 pub mod HeldSteps
+pub mod Operations

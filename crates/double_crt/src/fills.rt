@@ -1,9 +1,9 @@
 //! Rows for the moduli that are kept: made, taken to values, and taken back to coefficients.
-ghost use Rattle.std.specs.Prelude.{◌≡◌, ℕ, ◌<◌, ◌≤◌, ◌++◌, IfOk, OnOk, length, map, get_or};
+ghost use Rattle.std.specs.Prelude.{◌≡◌, ℕ, ◌<◌, ◌≤◌, ◌++◌, IfOk, OnOk, [], if◌then◌else◌, length, map, get_or, take, drop};
 ghost use Rattle.moduli_table.specs.Chain.{no_row};
 ghost use Rattle.residue_rows.specs.Rows.{AreRows, rows_of};
 ghost use Rattle.residue_rows.specs.Values.{values_of};
-ghost use Rattle.residue_rows.specs.Kept.{rows_kept, moduli_kept, root_of, interpolated_each};
+ghost use Rattle.residue_rows.specs.Kept.{IsSetting, rows_kept, moduli_kept, root_of, interpolated_each};
 ghost use Rattle.double_crt.specs.Held.{moduli_in, entries_in, AreHeld};
 ghost use Rattle.double_crt.specs.ModuloRows.{empty_row};
 
@@ -20,6 +20,7 @@ pub(crate) fn small_rows(
     coeffs: &[i64],
 ) -> Result<Vec<Row>, AllocError>
     requires { chain_rows ≤ length tables.now.moduli.chain }
+    ensures setting { IsSetting tables.now }
     ensures moduli { IfOk result (λ rows. moduli_in rows.items ≡ moduli_kept tables.now chain_rows special) }
     ensures entries { IfOk result (λ rows. entries_in rows.items ≡ rows_of (moduli_kept tables.now chain_rows special) coeffs.now) }
 {
@@ -42,6 +43,7 @@ pub(crate) fn given_rows(
 ) -> Result<Vec<Row>, AllocError>
     requires fits { chain_rows ≤ length tables.now.moduli.chain }
     requires given { AreRows tables.now.moduli.m (moduli_kept tables.now chain_rows special) (map (λ row. row.items) given.now) }
+    ensures setting { IsSetting tables.now }
     ensures moduli { IfOk result (λ rows. moduli_in rows.items ≡ moduli_kept tables.now chain_rows special) }
     ensures entries { IfOk result (λ rows. entries_in rows.items ≡ map (λ row. row.items) given.now) }
 {
@@ -113,4 +115,25 @@ pub(crate) fn extend(alloc: Global, to: &mut Vec<Row>, from: &[Row]) -> Result<(
         to.push(row.copy(alloc)?)?;
     }
     Ok(())
+}
+
+/// Copies of the rows of fewer moduli: the first ones of the chain, and the special ones or none.
+pub(crate) fn fewer_rows(
+    alloc: Global,
+    rows: &[Row],
+    chain_rows: u32,
+    fewer: u32,
+    special: bool,
+) -> Result<Vec<Row>, AllocError>
+    requires fewer_in { fewer ≤ length rows.now }
+    requires chain_in { chain_rows ≤ length rows.now }
+    ensures { IfOk result (λ copies. copies.items ≡ take fewer rows.now ++ (if special then drop chain_rows rows.now else [])) }
+{
+    let mut copies = Vec::new(alloc);
+    extend(alloc, &mut copies, &rows[..fewer as usize])?;
+    if !special {
+        return Ok(copies);
+    }
+    extend(alloc, &mut copies, &rows[chain_rows as usize..])?;
+    Ok(copies)
 }

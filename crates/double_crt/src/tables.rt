@@ -207,7 +207,7 @@ impl RingTables {
     pub(crate) fn row_count(&self, chain_rows: u32, special: bool) -> u32
         requires { chain_rows ≤ length self.now.moduli.chain }
         ensures value { result ≡ length (rows_kept self.now chain_rows special) }
-        ensures few { result ≤ 48 }
+        ensures setting { IsSetting self.now }
     {
         if special { chain_rows + self.moduli.special_len() } else { chain_rows }
     }
