@@ -4,7 +4,11 @@ pub mod FieldForms
 pub mod FormLists
 pub mod HeaderForms
 pub mod SecretForms
+pub mod PolynomialForms
+pub mod BoundForms
 pub mod FileForms
 pub mod SecretFiles
+pub mod PublicFiles
+pub mod CipherFiles
 pub mod Loops
 pub mod ChainModuli
