@@ -6,6 +6,7 @@ pub mod HeaderForms
 pub mod SecretForms
 pub mod PolynomialForms
 pub mod BoundForms
+pub mod RowText
 pub mod FileForms
 pub mod SecretFiles
 pub mod PublicFiles
