@@ -1,19 +1,17 @@
 -- The files of ciphertexts.
-use Rattle.std.proofs.Common.{◌≡◌, ℕ, suc, ◌+◌, ◌-◌, ◌^◌, ◌<◌, ◌≤◌, leb, List, [], ◌++◌, length, false, Result, Ok, refl, sym, ap, subst, ◌∙◌, append_assoc, arith}
+use Rattle.std.proofs.Common.{◌≡◌, ℕ, suc, ◌+◌, ◌^◌, ◌≤◌, leb, List, [], ◌++◌, length, false, Ok, refl, sym, subst, ◌∙◌, append_assoc, arith}
 use Rattle.std.specs.Prelude.{IsSome}
-use Rattle.std.specs.Int.{w32}
 use Rattle.std.proofs.lemmas.Bool.{leb-true, le-leb}
 use Rattle.std.proofs.lemmas.List.{length-append}
 use Rattle.line_text.specs.declared.kinds.FileKind.TheVariants as kinds
 use Rattle.residue_rows.specs.Rows.{AreRows}
 use Rattle.residue_rows.specs.Kept.{RingSetting, IsSetting, moduli_kept}
-use Rattle.scheme_laws.specs.Scheme.{SchemeSetting, top}
-use Rattle.scheme_laws.specs.Ciphers.{Cipher, IsCipher}
+use Rattle.scheme_laws.specs.Scheme.{top}
+use Rattle.scheme_laws.specs.Ciphers.{Cipher}
 use Rattle.he_files.specs.declared.headers.Header.{Header}
-use Rattle.he_files.specs.Form.{◌>>=◌, Form, ended}
 use Rattle.he_files.specs.Header.{kind_byte, header_bytes}
 use Rattle.he_files.specs.CipherFile.{level, bound, at_level, cipher_bytes, cipher_of_bytes}
-use Rattle.he_files.specs.FileLaws.{AreBytes, AreNames, header_length, BeginsWith, IsSpelledBound, CiphersAre, CipherLaw}
+use Rattle.he_files.specs.FileLaws.{AreBytes, header_length, BeginsWith, IsSpelledBound, CipherLaw}
 use Rattle.he_files.proofs.Forms.{IsForm, StandsAt, step_ok, length_here, stands_first, stands_second, found_inside, found_after}
 use Rattle.he_files.proofs.FieldForms.{IsAllowedNumber, number32_is}
 use Rattle.he_files.proofs.FileForms.{ended_at, ended_found, body_stands, body_inside, body_is}
@@ -111,12 +109,12 @@ module _ (t : RingSetting) (S : IsSetting t) (h : Header) where
       let s0 = found_after (level t) IsLevel bytes from l.0 (bound.spelled b.0.0 ++ (c0 ++ c1)) f3.rest f0 s1 in
       let long : length bytes ≡ from + length (body made) = omega (arith, end.0, f0.end, f1.end, f2.end, f3.end, length-append ((level t).spelled l.0.0) (bound.spelled b.0.0 ++ (c0 ++ c1)), length-append (bound.spelled b.0.0) (c0 ++ c1), length-append c0 c1) in
       subst (λ (k : Cipher). IsSpelledCipher k × (bytes ≡ cipher_bytes t h k)) end.1
-        (record { level_in = low; bound_in = f1.fits; c0_in = f2.fits; c1_in = f3.fits }, whole bytes from made f3.rest begins s0 long)
+      (record { level_in = low; bound_in = f1.fits; c0_in = f2.fits; c1_in = f3.fits }, whole bytes from made f3.rest begins s0 long)
 
 pub cipher_law : CipherLaw
 cipher_law t h S names = record {
   again = λ c is spelled. cipher_again t.ring S h c (record { level_in = is.level_in; bound_in = spelled; c0_in = is.c0_in; c1_in = is.c1_in });
   spelled = λ bytes from c all begins e.
-    let f = cipher_found t.ring S h bytes from c all begins e in
-    (record { level_in = f.0.level_in; c0_in = f.0.c0_in; c1_in = f.0.c1_in }, f.0.bound_in, f.1);
+      let f = cipher_found t.ring S h bytes from c all begins e in
+      (record { level_in = f.0.level_in; c0_in = f.0.c0_in; c1_in = f.0.c1_in }, f.0.bound_in, f.1);
 }

@@ -11,5 +11,6 @@ pub mod FileForms
 pub mod SecretFiles
 pub mod PublicFiles
 pub mod CipherFiles
+pub mod CipherSteps
 pub mod Loops
 pub mod ChainModuli

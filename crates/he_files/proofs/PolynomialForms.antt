@@ -1,6 +1,6 @@
 -- Polynomials that are read were spelled so, and spelled polynomials are read again.
-use Rattle.std.proofs.Common.{◌≡◌, ℕ, ◌+◌, ◌*◌, ◌^◌, ◌<◌, ◌≤◌, Bool, true, false, ltb, List, [], ◌∷◌, ◌++◌, length, get_or, map, take, All, Result, Ok, refl, sym, ap, subst, ◌∙◌, arith}
-use Rattle.std.specs.List.{AllByRecursion, AllZip, flat_map}
+use Rattle.std.proofs.Common.{◌≡◌, ℕ, ◌^◌, ◌<◌, ◌≤◌, false, ltb, List, [], ◌∷◌, length, get_or, map, take, All, Ok, sym, ap, subst, ◌∙◌, arith}
+use Rattle.std.specs.List.{AllZip}
 use Rattle.std.proofs.lemmas.Bool.{ltb-true, lt-ltb}
 use Rattle.std.proofs.lemmas.List.{append-nil}
 use Rattle.std.proofs.lemmas.List.Elements.{All-head, All-tail, All-weaker, All-from_recursion, recursion_from_All}
@@ -11,20 +11,19 @@ use Rattle.residue_rows.specs.Rows.{AreRows}
 use Rattle.residue_rows.specs.Kept.{RingSetting, IsSetting, Residues, IsKept, rows_kept, moduli_kept, values_each, interpolated_each, polynomial_values}
 use Rattle.residue_rows.proofs.ModuliKept.{roots_are, moduli_are}
 use Rattle.residue_rows.proofs.ValuesEach.{interpolated_in, values_in, each_forth, each_back}
-use Rattle.he_files.specs.Form.{◌>>=◌, Form, several, each}
+use Rattle.he_files.specs.Form.{Form, several}
 use Rattle.he_files.specs.Polynomial.{residue, residue_rows, polynomial}
-use Rattle.he_files.specs.FileLaws.{AreBytes}
-use Rattle.he_files.proofs.Forms.{IsForm, Found, StandsAt, bytes_are}
+use Rattle.he_files.proofs.Forms.{IsForm, bytes_are}
 use Rattle.he_files.proofs.FieldForms.{IsAllowedNumber, number64_is}
-use Rattle.he_files.proofs.FormLists.{AreSeveral, several_is, each_is, GoesBack, written_as_is}
+use Rattle.he_files.proofs.FormLists.{AreSeveral, several_is, each_is, written_as_is}
 
 -- a form under another word for what fits
 pub fits_so : {A : Type 0} (form : Form A) (Fits Seen : A → Type 0) → IsForm form Fits → ((x : A) → Seen x → Fits x) → ((x : A) → Fits x → Seen x) → IsForm form Seen
 fits_so form Fits Seen is there back = record {
   again = λ bytes at x rest seen s. is.again bytes at x rest (there x seen) s;
   found = λ bytes at y all inside e.
-    let f = is.found bytes at y all inside e in
-    record { rest = f.rest; stands = f.stands; end = f.end; fits = back y.0 f.fits };
+      let f = is.found bytes at y all inside e in
+      record { rest = f.rest; stands = f.stands; end = f.end; fits = back y.0 f.fits };
 }
 
 -- n numbers of eight bytes below q
@@ -61,9 +60,9 @@ pub residue_rows_is : (m : ℕ) (qs : List ℕ) → All (λ q. q < 2 ^ 64) qs �
 residue_rows_is m qs small =
     let n = degree m in
     fits_so (residue_rows n qs) (AllZip (AreNumbers n) qs) (AreRows m qs)
-      (each_is (λ q. several n (residue q)) (AreNumbers n) (λ q. several_is (residue q) (IsAllowedNumber (2 ^ 64) (λ x. ltb x q)) (number64_is (λ x. ltb x q)) n) qs)
-      (λ rows. numbers_of_rows n qs rows small)
-      (rows_of_numbers n qs)
+    (each_is (λ q. several n (residue q)) (AreNumbers n) (λ q. several_is (residue q) (IsAllowedNumber (2 ^ 64) (λ x. ltb x q)) (number64_is (λ x. ltb x q)) n) qs)
+    (λ rows. numbers_of_rows n qs rows small)
+    (rows_of_numbers n qs)
 
 module _ (t : RingSetting) (S : IsSetting t) (count : ℕ) (few : count ≤ length t.moduli.chain) where
   pub small_moduli : All (λ q. q < 2 ^ 64) (moduli_kept t count false)

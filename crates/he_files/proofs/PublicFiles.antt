@@ -1,5 +1,5 @@
 -- The files of public keys.
-use Rattle.std.proofs.Common.{◌≡◌, ℕ, ◌+◌, ◌≤◌, List, [], ◌++◌, length, false, Result, Ok, refl, sym, ap, subst, ◌∙◌, append_assoc, le_refl, arith}
+use Rattle.std.proofs.Common.{◌≡◌, ℕ, ◌+◌, List, [], ◌++◌, length, false, Ok, refl, sym, subst, ◌∙◌, append_assoc, le_refl, arith}
 use Rattle.std.specs.Prelude.{IsSome}
 use Rattle.std.proofs.lemmas.List.{length-append}
 use Rattle.line_text.specs.declared.kinds.FileKind.TheVariants as kinds
@@ -7,10 +7,10 @@ use Rattle.residue_rows.specs.Rows.{AreRows}
 use Rattle.residue_rows.specs.Kept.{RingSetting, IsSetting, moduli_kept}
 use Rattle.scheme_laws.specs.Keys.{PublicKey}
 use Rattle.he_files.specs.declared.headers.Header.{Header}
-use Rattle.he_files.specs.Form.{◌>>=◌, Form, ended}
+use Rattle.he_files.specs.Form.{Form}
 use Rattle.he_files.specs.Header.{kind_byte, header_bytes}
 use Rattle.he_files.specs.PublicFile.{over_chain, public_bytes, public_of}
-use Rattle.he_files.specs.FileLaws.{AreBytes, AreNames, header_length, BeginsWith, ArePublicRows, PublicsAre, PublicLaw}
+use Rattle.he_files.specs.FileLaws.{AreBytes, header_length, BeginsWith, ArePublicRows, PublicLaw}
 use Rattle.he_files.proofs.Forms.{IsForm, StandsAt, step_ok, length_here, stands_first, stands_second, found_inside, found_after}
 use Rattle.he_files.proofs.FileForms.{ended_at, ended_found, body_stands, body_inside, body_is}
 use Rattle.he_files.proofs.PolynomialForms.{polynomial_is}
@@ -68,7 +68,7 @@ module _ (t : RingSetting) (S : IsSetting t) (h : Header) where
       let long : length bytes ≡ from + length text = omega (arith, end.0, f.end, g.end, length-append (form.spelled b.0.0) (form.spelled a.0.0)) in
       let stands = found_after form Fits bytes from b.0 (form.spelled a.0.0) g.rest f g.stands in
       subst (λ (k : PublicKey). ArePublicRows t k × (bytes ≡ public_bytes t h k)) end.1
-        (record { b_in = f.fits; a_in = g.fits }, whole bytes from made g.rest begins stands long)
+      (record { b_in = f.fits; a_in = g.fits }, whole bytes from made g.rest begins stands long)
 
 pub public_law : PublicLaw
 public_law t h S names = record { again = public_again t S h; spelled = public_found t S h }

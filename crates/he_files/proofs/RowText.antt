@@ -1,13 +1,13 @@
 -- Polynomials as they are written, value by value and row by row.
-use Rattle.std.proofs.Common.{◌≡◌, ℕ, ◌+◌, ◌<◌, ◌≤◌, List, [], ◌∷◌, ◌++◌, length, get_or, map, take, false, refl, sym, ap, ◌∙◌, arith}
-use Rattle.std.specs.List.{AllZip, flat_map}
+use Rattle.std.proofs.Common.{◌≡◌, ℕ, ◌+◌, ◌<◌, ◌≤◌, List, [], ◌∷◌, ◌++◌, length, get_or, take, false, refl, sym, ap, ◌∙◌, arith}
+use Rattle.std.specs.List.{flat_map}
 use Rattle.std.specs.Int.{w64}
 use Rattle.std.proofs.lemmas.List.{append-nil, flat_map_more, length-take-le, take_more, take_all}
 use Rattle.std.proofs.Math.ListN.{length-map}
 use Rattle.moduli_table.specs.declared.rows.ModRow.{ModRow}
 use Rattle.cyclotomic.specs.Cyclotomic.{degree}
 use Rattle.residue_rows.specs.Rows.{AreRows}
-use Rattle.residue_rows.specs.Kept.{RingSetting, IsSetting, Residues, IsKept, rows_kept, moduli_kept, moduli_of, values_each, polynomial_values}
+use Rattle.residue_rows.specs.Kept.{Residues, IsKept, rows_kept, moduli_kept, moduli_of, values_each, polynomial_values}
 use Rattle.residue_rows.proofs.ModuliKept.{roots_are}
 use Rattle.residue_rows.proofs.ValuesEach.{values_in}
 use Rattle.he_files.specs.Form.{number_bytes, several, each_spelled}

@@ -14,18 +14,18 @@ use moduli_table::Moduli;
 use std::alloc::{AllocError, Global};
 use std::rc::Rc;
 
-/// The number of eight bytes at an offset, below q.
+/// The number of eight bytes at an offset, below q, and the offset after it.
 #[tactic(auto, unfolding(crate::specs::Form::field_at, crate::specs::Form::allowed_number))]
-fn residue_at(bytes: &[u8], at: usize, q: u64) -> Result<u64, ReadFault>
+fn residue_at(bytes: &[u8], at: usize, q: u64) -> Result<(u64, usize), ReadFault>
     requires { at ≤ length bytes.now }
-    ensures value { Reads (λ x. (x, at + 8)) result ((form.residue q).read bytes.now at) }
-    ensures inside { OnOk result (at + 8 ≤ length bytes.now) }
+    ensures value { Reads (λ found. found) result ((form.residue q).read bytes.now at) }
+    ensures inside { IfOk result (λ found. found.1 ≤ length bytes.now) }
 {
     let x = u64_of(bytes_at(bytes, at, 8)?);
     if x >= q {
         return Err(ReadFault::Bad(at as u64));
     }
-    Ok(x)
+    Ok((x, at + 8))
 }
 
 /// The number that eight bytes spell, the low one first.
@@ -53,8 +53,9 @@ fn row_at(
     let mut row = Vec::new(alloc);
     let mut at = at;
     for _ in 0..n {
-        row.push(residue_at(bytes, at, q)?)?;
-        at += 8;
+        let (x, after) = residue_at(bytes, at, q)?;
+        row.push(x)?;
+        at = after;
     }
     Ok((row, at))
 }

@@ -1,8 +1,5 @@
-use Rattle.std.proofs.Common.{◌≡◌, ◌∙◌, ap, subst, sym, map, false, Ok, List, ℕ, arith}
-use Rattle.cyclotomic.specs.Cyclotomic.{degree}
-use Rattle.residue_rows.specs.Rows.{AreRows}
-use Rattle.residue_rows.specs.Kept.{IsSetting, moduli_kept}
-use Rattle.he_files.specs.Polynomial.{residue_rows}
+use Rattle.std.proofs.Common.{◌∙◌, ap, subst, map, arith}
+use Rattle.residue_rows.specs.Kept.{IsSetting}
 use Rattle.he_files.proofs.PolynomialForms.{rows_read, rows_fit, polynomial_read}
 use Rattle.he_files.proofs.polynomials.polynomial_at.Goals as goal
 

@@ -1,5 +1,4 @@
-use Rattle.std.proofs.Common.{◌≡◌, ◌∙◌, ◌++◌, ◌<◌, ◌≤◌, ℕ, List, [], ap, sym, get_or, length, take, arith}
-use Rattle.std.specs.List.{flat_map}
+use Rattle.std.proofs.Common.{◌∙◌, ◌++◌, ◌<◌, ◌≤◌, ℕ, List, [], ap, sym, get_or, length, arith}
 use Rattle.residue_rows.specs.Kept.{polynomial_values}
 use Rattle.he_files.proofs.RowText.{row_bytes, more_written, all_written, values_long, polynomial_text, rows_of_chain}
 use Rattle.he_files.proofs.polynomials.put_polynomial.Goals as goal
