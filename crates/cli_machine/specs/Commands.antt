@@ -1,6 +1,5 @@
 -- The grammar of the commands.
 use Rattle.std.specs.Prelude.{ℕ, List, [], ◌∷◌, Option, Some, None, bytes_eq, codes, if◌then◌else◌}
-use Rattle.std.specs.Prelude.{option_and_then}
 use Rattle.line_text.specs.Names.{name_of}
 use Rattle.cli_machine.specs.declared.command.Command.{Command}
 use Rattle.cli_machine.specs.declared.command.Command.TheVariants.{Clear, Summarise, MakeTable}

@@ -1,6 +1,6 @@
 -- What a line wants left behind, of its words and of the files that a shelf tells, or the cause for
 -- which it stops.
-use Rattle.std.specs.Prelude.{ℕ, ◌==◌, List, [], ◌∷◌, length, Option, Some, None, Result, Ok, Err, ok_or, is_some, if◌then◌else◌}
+use Rattle.std.specs.Prelude.{ℕ, ◌==◌, List, [], ◌∷◌, length, Result, Ok, Err, ok_or, is_some, if◌then◌else◌}
 use Rattle.line_text.specs.declared.kinds.FileKind.{FileKind}
 use Rattle.line_text.specs.declared.kinds.FileKind.TheVariants.{Table, Template, Slots, Prog}
 use Rattle.line_text.specs.declared.kinds.FileName.{FileName}

@@ -1,5 +1,5 @@
 -- What `clear` prints, in the words of tables, programs and arrays alone.
-use Rattle.std.specs.Prelude.{◌≡◌, ℕ, List, [], ◌∷◌, ◌++◌, length, Option, Some, Ok}
+use Rattle.std.specs.Prelude.{◌≡◌, ℕ, List, [], ◌∷◌, ◌++◌, length, Some, Ok}
 use Rattle.line_text.specs.declared.kinds.FileKind.TheVariants.{Table, Slots, Prog}
 use Rattle.shelf_core.specs.Files.{File, bytes_of}
 use Rattle.slot_array.specs.Arrays.{Array}
