@@ -1,10 +1,13 @@
 -- The printed report of how a session ended.
 use Rattle.std.specs.Prelude.{ℕ, List, [], ◌∷◌, ◌++◌, codes, decimal}
 use Rattle.line_text.specs.Kinds.{file_text, key_word}
+use Rattle.line_text.specs.declared.kinds.FileName.{FileName}
+use Rattle.noise_bound.specs.Text.{text_of}
+use Rattle.he_files.specs.declared.headers.Header.{Header}
 use Rattle.table_file.specs.declared.faults.TableFault.{TableFault}
 use Rattle.table_file.specs.declared.faults.TableFault.TheVariants as check
 use Rattle.cli_machine.specs.declared.cause.Cause.{Cause}
-use Rattle.cli_machine.specs.declared.cause.Cause.TheVariants.{Words, NoFile, NameTaken, BadTable, BadSlots, BadProgram, BadTemplate, NoRoot, Arity, ShelfFault, SinkFault, Memory}
+use Rattle.cli_machine.specs.declared.cause.Cause.TheVariants.{Words, NoFile, NameTaken, BadTable, BadSlots, BadProgram, BadSeed, BadTemplate, BadKey, BadCipher, NoRoot, Arity, WrongKey, TooNoisy, NoChain, ShelfFault, SinkFault, Memory}
 use Rattle.cli_machine.specs.declared.cause.Status.{Status}
 use Rattle.cli_machine.specs.declared.cause.Status.TheVariants.{Done, Stopped}
 
@@ -15,6 +18,14 @@ numbered word i = word ++ decimal i
 -- a word and two numbers
 abbrev pub paired : List ℕ → ℕ → ℕ → List ℕ
 paired word i j = word ++ decimal i ++ codes " " ++ decimal j
+
+-- a word, the name of a file, and a place in it
+abbrev pub placed : List ℕ → FileName → ℕ → List ℕ
+placed word file place = word ++ file_text file ++ codes " " ++ decimal place
+
+-- the names of a table and of a key, as `a/k`
+abbrev pub header_text : Header → List ℕ
+header_text header = header.table ++ codes "/" ++ header.key
 
 -- the name of a check, and its key or places, each after a space
 unfoldable pub fault_text : TableFault → List ℕ
@@ -49,9 +60,15 @@ cause_text (NameTaken file) = codes "NameTaken " ++ file_text file
 cause_text (BadTable fault) = codes "BadTable " ++ fault_text fault
 cause_text (BadSlots line) = numbered (codes "BadSlots ") line
 cause_text (BadProgram line) = numbered (codes "BadProgram ") line
+cause_text BadSeed = codes "BadSeed"
 cause_text (BadTemplate key) = codes "BadTemplate " ++ key_word key
+cause_text (BadKey file place) = placed (codes "BadKey ") file place
+cause_text (BadCipher file place) = placed (codes "BadCipher ") file place
 cause_text (NoRoot i) = numbered (codes "NoRoot ") i
 cause_text (Arity given named) = paired (codes "Arity ") given named
+cause_text (WrongKey want got) = codes "WrongKey " ++ header_text want ++ codes " " ++ header_text got
+cause_text (TooNoisy line bound limit) = numbered (codes "TooNoisy ") line ++ codes " " ++ text_of bound ++ codes " " ++ text_of limit
+cause_text (NoChain file) = codes "NoChain " ++ file_text file
 cause_text (ShelfFault faults) = numbered (codes "ShelfFault ") faults
 cause_text (SinkFault faults) = numbered (codes "SinkFault ") faults
 cause_text Memory = codes "Memory"
@@ -70,9 +87,15 @@ number_of (Stopped line (NameTaken file)) = 4
 number_of (Stopped line (BadTable fault)) = 5
 number_of (Stopped line (BadSlots bad)) = 6
 number_of (Stopped line (BadProgram bad)) = 7
+number_of (Stopped line BadSeed) = 8
 number_of (Stopped line (BadTemplate key)) = 9
+number_of (Stopped line (BadKey file place)) = 10
+number_of (Stopped line (BadCipher file place)) = 11
 number_of (Stopped line (NoRoot i)) = 12
 number_of (Stopped line (Arity given named)) = 14
+number_of (Stopped line (WrongKey want got)) = 15
+number_of (Stopped line (TooNoisy bad bound limit)) = 18
+number_of (Stopped line (NoChain file)) = 21
 number_of (Stopped line (ShelfFault faults)) = 30
 number_of (Stopped line (SinkFault faults)) = 31
 number_of (Stopped line Memory) = 40

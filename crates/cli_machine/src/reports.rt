@@ -1,10 +1,13 @@
 //! The printed report of how a session ended, and the exit status.
-ghost use Rattle.std.specs.Prelude.{◌≡◌, ◌++◌, decimal, IfOk, OnOk};
+ghost use Rattle.std.specs.Prelude.{◌≡◌, ◌++◌, codes, decimal, IfOk, OnOk};
 ghost use Rattle.line_text.specs.Kinds.{file_text, key_word};
-ghost use Rattle.cli_machine.specs.Report.{cause_text, fault_text, number_of, numbered, paired, report_of};
+ghost use Rattle.noise_bound.specs.Text.{text_of};
+ghost use Rattle.cli_machine.specs.Report.{cause_text, fault_text, header_text, number_of, numbered, paired, placed, report_of};
 
 use crate::cause::{Cause, Status};
+use he_files::Header;
 use line_text::{FileName, TableKey, put_number};
+use noise_bound::Bound;
 use std::alloc::{AllocError, Global};
 use table_file::TableFault;
 
@@ -39,9 +42,17 @@ fn put_cause(text: &mut Vec<u8>, cause: &Cause) -> Result<(), AllocError>
         Cause::BadTable { fault } => put_check(text, b"BadTable ", fault),
         Cause::BadSlots { line } => put_numbered(text, b"BadSlots ", u64::from(*line)),
         Cause::BadProgram { line } => put_numbered(text, b"BadProgram ", u64::from(*line)),
+        Cause::BadSeed => text.extend_from_slice(b"BadSeed"),
         Cause::BadTemplate { key } => put_key(text, b"BadTemplate ", *key),
+        Cause::BadKey { file, place } => put_placed(text, b"BadKey ", file, *place),
+        Cause::BadCipher { file, place } => put_placed(text, b"BadCipher ", file, *place),
         Cause::NoRoot { i } => put_numbered(text, b"NoRoot ", u64::from(*i)),
         Cause::Arity { given, named } => put_paired(text, b"Arity ", *given, u64::from(*named)),
+        Cause::WrongKey { want, got } => put_headers(text, b"WrongKey ", want, got),
+        Cause::TooNoisy { line, bound, limit } => {
+            put_bounds(text, b"TooNoisy ", u64::from(*line), *bound, *limit)
+        }
+        Cause::NoChain { file } => put_file(text, b"NoChain ", file),
         Cause::ShelfFault { faults } => put_numbered(text, b"ShelfFault ", u64::from(*faults)),
         Cause::SinkFault { faults } => put_numbered(text, b"SinkFault ", u64::from(*faults)),
         Cause::Memory => text.extend_from_slice(b"Memory"),
@@ -54,6 +65,72 @@ fn put_file(text: &mut Vec<u8>, word: &[u8], file: &FileName) -> Result<(), Allo
 {
     text.extend_from_slice(word)?;
     file.put(text)
+}
+
+/// Appends a word, the name of a file, and a place in it.
+fn put_placed(
+    text: &mut Vec<u8>,
+    word: &[u8],
+    file: &FileName,
+    place: u64,
+) -> Result<(), AllocError>
+    ensures { OnOk result (text.new.items ≡ text.old.items ++ placed word.now file.now place) }
+{
+    put_file(text, word, file)?;
+    text.extend_from_slice(b" ")?;
+    put_number(text, place)
+}
+
+/// Appends a word and two pairs of names.
+fn put_headers(
+    text: &mut Vec<u8>,
+    word: &[u8],
+    want: &Header,
+    got: &Header,
+) -> Result<(), AllocError>
+    ensures { OnOk result (text.new.items ≡ text.old.items ++ (word.now ++ header_text want.now ++ codes " " ++ header_text got.now)) }
+{
+    text.extend_from_slice(word)?;
+    put_header(text, want)?;
+    text.extend_from_slice(b" ")?;
+    put_header(text, got)
+}
+
+/// Appends the names of a table and of a key, as `a/k`.
+fn put_header(text: &mut Vec<u8>, header: &Header) -> Result<(), AllocError>
+    ensures { OnOk result (text.new.items ≡ text.old.items ++ header_text header.now) }
+{
+    text.extend_from_slice(header.table.bytes())?;
+    text.extend_from_slice(b"/")?;
+    text.extend_from_slice(header.key.bytes())
+}
+
+/// Appends a word, a number and two bounds.
+fn put_bounds(
+    text: &mut Vec<u8>,
+    word: &[u8],
+    line: u64,
+    bound: Bound,
+    limit: Bound,
+) -> Result<(), AllocError>
+    ensures { OnOk result (text.new.items ≡ text.old.items ++ (numbered word.now line ++ codes " " ++ text_of bound ++ codes " " ++ text_of limit)) }
+{
+    put_numbered(text, word, line)?;
+    text.extend_from_slice(b" ")?;
+    put_bound(text, bound)?;
+    text.extend_from_slice(b" ")?;
+    put_bound(text, limit)
+}
+
+/// Appends a bound: its mantissa, and its power of two where this is not 1.
+fn put_bound(text: &mut Vec<u8>, bound: Bound) -> Result<(), AllocError>
+    ensures { OnOk result (text.new.items ≡ text.old.items ++ text_of bound) }
+{
+    put_number(text, u64::from(bound.man))?;
+    if bound.exp == 0 {
+        return Ok(());
+    }
+    put_numbered(text, b"*2^", u64::from(bound.exp))
 }
 
 /// Appends a word and a number.
@@ -136,9 +213,15 @@ pub fn number(status: &Status) -> u8
             Cause::BadTable { .. } => 5,
             Cause::BadSlots { .. } => 6,
             Cause::BadProgram { .. } => 7,
+            Cause::BadSeed => 8,
             Cause::BadTemplate { .. } => 9,
+            Cause::BadKey { .. } => 10,
+            Cause::BadCipher { .. } => 11,
             Cause::NoRoot { .. } => 12,
             Cause::Arity { .. } => 14,
+            Cause::WrongKey { .. } => 15,
+            Cause::TooNoisy { .. } => 18,
+            Cause::NoChain { .. } => 21,
             Cause::ShelfFault { .. } => 30,
             Cause::SinkFault { .. } => 31,
             Cause::Memory => 40,

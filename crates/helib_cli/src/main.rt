@@ -3,6 +3,8 @@
 #![tactic(auto)]
 
 #[cfg(test)]
+mod tables;
+#[cfg(test)]
 mod tests;
 
 use cli_machine::{Cause, Status, number, report};

@@ -237,16 +237,27 @@ fn rows() -> &'static str {
     ROWS
 }
 
+/// Runs the lines of each case over these files and compares what they print and report, and the last status.
+pub fn check_rows<R: Abort + AllocGlobal>(rt: &R, list: &str, rows: &str) -> Result<(), Fail> {
+    for row in rows.lines() {
+        let (lines, rest) = row.split_once(':').ok_or("no colon")?;
+        let (text, status) = rest.split_once(':').ok_or("no status")?;
+        check(rt, list, lines, &[], &[], text, status.parse::<u8>()?)?;
+    }
+    Ok(())
+}
+
 /// Runs lines and compares what they print and report, and the last status.
 fn check<R: Abort + AllocGlobal>(
     rt: &R,
+    list: &str,
     lines: &str,
     shelf_failing: &[u64],
     sink_failing: &[u64],
     spelling: &str,
     status: u8,
 ) -> Result<(), Fail> {
-    let files = files(rt.alloc(), file_list())?;
+    let files = files(rt.alloc(), list)?;
     let (text, ended) = run(rt, lines, files, shelf_failing, sink_failing)?;
     let wanted = text_of(rt.alloc(), spelling)?;
     assert_eq!(rt; text.as_slice(), wanted.as_slice(), "in {lines}");
@@ -256,12 +267,7 @@ fn check<R: Abort + AllocGlobal>(
 
 #[test]
 fn sessions(rt: HostRuntime) -> Result<(), Fail> {
-    for row in rows().lines() {
-        let (lines, rest) = row.split_once(':').ok_or("no colon")?;
-        let (text, status) = rest.split_once(':').ok_or("no status")?;
-        check(&rt, lines, &[], &[], text, status.parse::<u8>()?)?;
-    }
-    Ok(())
+    check_rows(&rt, file_list(), rows())
 }
 
 #[test]
@@ -269,6 +275,7 @@ fn each_call_fails(rt: HostRuntime) -> Result<(), Fail> {
     for call in 0..4u64 {
         check(
             &rt,
+            file_list(),
             "clear a prod x y",
             &[call],
             &[],
@@ -279,6 +286,7 @@ fn each_call_fails(rt: HostRuntime) -> Result<(), Fail> {
     for call in 0..3u64 {
         check(
             &rt,
+            file_list(),
             "maketable mb made",
             &[call],
             &[],
@@ -288,6 +296,7 @@ fn each_call_fails(rt: HostRuntime) -> Result<(), Fail> {
     }
     check(
         &rt,
+        file_list(),
         "clear a prod x y",
         &[4],
         &[0],
@@ -309,9 +318,17 @@ fn names_of_64_bytes(rt: HostRuntime) -> Result<(), Fail> {
     let longest = "abcdefghijklmnopqrstuvwxyz0123456789_abcdefghijklmnopqrstuvwxyz0";
     let line = format!(in rt.alloc(); "clear {longest} same x")?;
     let text = format!(in rt.alloc(); "stopped 0 NoFile {longest}.table;")?;
-    check(&rt, line.as_str(), &[], &[], text.as_str(), 3)?;
+    check(&rt, file_list(), line.as_str(), &[], &[], text.as_str(), 3)?;
     let line = format!(in rt.alloc(); "clear {longest}1 same x")?;
-    check(&rt, line.as_str(), &[], &[], "stopped 0 Words;", 2)
+    check(
+        &rt,
+        file_list(),
+        line.as_str(),
+        &[],
+        &[],
+        "stopped 0 Words;",
+        2,
+    )
 }
 
 /// Runs a program of two instructions and so many blank lines before them.

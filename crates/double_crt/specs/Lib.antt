@@ -1,0 +1,10 @@
+pub mod Bases
+pub mod Restricted
+pub use Rattle.algebra.specs.Ring
+pub use Rattle.algebra.specs.Divisor
+pub use Rattle.cyclotomic.specs.Cyclotomic
+pub use Rattle.moduli_table.specs.Chain
+pub use Rattle.mixed_radix.specs.Basis
+pub use Rattle.residue_rows.specs.Rows
+pub use Rattle.residue_rows.specs.Kept
+pub mod Never
