@@ -6,6 +6,7 @@ use Rattle.line_text.specs.declared.kinds.FileKind.TheVariants.{Table, Template,
 use Rattle.line_text.specs.declared.kinds.FileName.{FileName}
 use Rattle.line_text.specs.Seeds.{seed_of}
 use Rattle.shelf_core.specs.Files.{File, bytes_of}
+use Rattle.rand_chacha.specs.ChaCha.{key_of}
 use Rattle.draw_stream.specs.Draw.{Stream}
 use Rattle.noise_bound.specs.Form.{bound_of}
 use Rattle.noise_bound.specs.Machine.{Sizes, fresh, limit}
@@ -137,7 +138,7 @@ seed_on name files = do
 
 -- the draws of a stream of a seed
 abbrev pub draws_of : List ℕ → ℕ → Stream
-draws_of seed stream = record { key = seed; number = stream; place = 0 }
+draws_of seed stream = record { key = key_of seed; number = stream; place = 0 }
 
 -- a table that is not plain
 pub record Chained : Type 0 where

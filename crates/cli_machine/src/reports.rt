@@ -122,8 +122,8 @@ fn put_bounds(
     put_bound(text, limit)
 }
 
-/// Appends a bound: its mantissa, and its power of two where this is not 1.
-fn put_bound(text: &mut Vec<u8>, bound: Bound) -> Result<(), AllocError>
+/// Appends a bound: its mantissa, and its power of two where this is not 1, as `3057123754*2^49`.
+pub fn put_bound(text: &mut Vec<u8>, bound: Bound) -> Result<(), AllocError>
     ensures { OnOk result (text.new.items ≡ text.old.items ++ text_of bound) }
 {
     put_number(text, u64::from(bound.man))?;

@@ -1,27 +1,24 @@
 -- What `clear` prints, from what the machine says of its line.
-use Rattle.std.proofs.Common.{◌≡◌, ℕ, Bool, true, false, cond, List, [], ◌∷◌, ◌++◌, length, Option, Some, None, Result, Ok, Err, refl, sym, ap, ◌∙◌, subst}
+use Rattle.std.proofs.Common.{◌≡◌, ℕ, Bool, true, false, cond, List, [], ◌∷◌, length, Option, Some, None, Result, Ok, Err, refl, sym, ap, ◌∙◌, subst}
 use Rattle.std.specs.Option.{ok_or}
 use Rattle.std.specs.Prelude.{◌==◌}
 use Rattle.line_text.specs.declared.kinds.FileKind.TheVariants.{Table, Slots, Prog}
 use Rattle.line_text.specs.declared.kinds.FileName.{FileName}
 use Rattle.shelf_core.specs.Files.{File, bytes_of}
 use Rattle.slot_array.specs.Arrays.{Array}
-use Rattle.slot_array.specs.SlotsText.{slots_of, slots_text}
+use Rattle.slot_array.specs.SlotsText.{slots_of}
 use Rattle.slot_factor.specs.Packing.{Packing}
 use Rattle.slot_program.specs.declared.kinds.Step.{Step}
-use Rattle.slot_program.specs.Program.{input_count, meaning}
+use Rattle.slot_program.specs.Program.{input_count}
 use Rattle.slot_program.specs.Text.{program_of}
 use Rattle.table_file.specs.Accepted.{table_of}
 use Rattle.table_file.specs.Setting.{Setting}
 use Rattle.cli_machine.specs.declared.cause.Cause.{Cause}
-use Rattle.cli_machine.specs.declared.cause.Cause.TheVariants.{Words, Arity}
+use Rattle.cli_machine.specs.declared.cause.Cause.TheVariants.{Arity}
 use Rattle.cli_machine.specs.declared.cause.Status.{Status}
-use Rattle.cli_machine.specs.declared.cause.Status.TheVariants.{Done}
-use Rattle.cli_machine.specs.declared.command.Command.TheVariants.{Clear}
 use Rattle.cli_machine.specs.Clauses.{outcome_of, PrintsAll, Shows}
-use Rattle.cli_machine.specs.Commands.{command_of}
-use Rattle.cli_machine.specs.Effects.{Wanted, Prints}
-use Rattle.cli_machine.specs.Machine.{◌>>=◌, or_else, loaded, file_of, table_on, program_on, array_on, arrays_on, matched, clear_on, command_on, line_on}
+use Rattle.cli_machine.specs.Effects.{Wanted}
+use Rattle.cli_machine.specs.Machine.{◌>>=◌, or_else, loaded, file_of, table_on, program_on, array_on, arrays_on, matched, clear_on, line_on}
 use Rattle.cli_machine.specs.Plain.{ClearPrints, PrintsMeaning, HoldsTable, HoldsProgram, HoldsArray, HoldsArrays}
 use Rattle.std.proofs.lemmas.Bool.{eqb-true}
 
