@@ -5,7 +5,9 @@ ghost use Rattle.cli_machine.specs.Effects.{left_by};
 ghost use Rattle.cli_machine.specs.Machine.{command_on, line_on};
 ghost use Rattle.cli_machine.specs.Plain.{ClearPrints};
 
+use crate::ciphers::{decrypt, encrypt, noise};
 use crate::clearing::clear;
+use crate::keys::{key_gen, pub_key};
 use crate::tables::{make_table, summarise};
 use cli_machine::{Cause, Command, Effect, Status, command_of};
 use shelf_core::{Put, Saved, Shelf, Sink};
@@ -100,6 +102,22 @@ fn effect_of<S: Shelf>(alloc: Global, shelf: &mut S, command: &Command) -> Resul
         } => clear(alloc, shelf, table, program, inputs),
         Command::Summarise { table } => summarise(alloc, shelf, table),
         Command::MakeTable { source, table } => make_table(alloc, shelf, source, table),
+        Command::KeyGen {
+            table,
+            key,
+            seed,
+            stream,
+        } => key_gen(alloc, shelf, table, key, seed, *stream),
+        Command::PubKey { key, seed, stream } => pub_key(alloc, shelf, key, seed, *stream),
+        Command::Encrypt {
+            key,
+            cipher,
+            seed,
+            stream,
+            input,
+        } => encrypt(alloc, shelf, key, cipher, seed, *stream, input),
+        Command::Decrypt { key, cipher } => decrypt(alloc, shelf, key, cipher),
+        Command::Noise { cipher } => noise(alloc, shelf, cipher),
     }
 }
 
