@@ -1,0 +1,3 @@
+pub mod PlainState
+pub mod Carrying
+pub mod CarryingLaws
