@@ -1,6 +1,6 @@
 -- The file of a ciphertext: its level, the mantissa and the exponent of its bound, and its polynomials c0 and c1 over the moduli
 -- of its level.
-use Rattle.std.specs.Prelude.{ℕ, suc, ◌*◌, ◌^◌, ◌==◌, ◌&&◌, ◌||◌, nat_le, nat_lt, true, List, ◌++◌, Result, Ok, Err}
+use Rattle.std.specs.Prelude.{ℕ, suc, ◌*◌, ◌^◌, ◌==◌, ◌&&◌, ◌||◌, nat_le, nat_lt, true, List, ◌++◌, Result, Ok}
 use Rattle.std.specs.Int.{w32}
 use Rattle.line_text.specs.declared.kinds.FileKind.TheVariants as kinds
 use Rattle.noise_bound.specs.Rounding.{mantissa, exponent}

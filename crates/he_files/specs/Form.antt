@@ -49,12 +49,16 @@ allowed_byte test front = let n = slice_index front 0 in if test n then Some n e
 abbrev pub byte : (ℕ → Bool) → Form ℕ
 byte test = field 1 (λ n. n ∷ []) (allowed_byte test)
 
--- a number that passes a test, the low byte first
+-- the bytes of a number, the low one first
+unfoldable pub number_bytes : Width → ℕ → List ℕ
+number_bytes w n = to_le_bytes w n
+
+-- a number that passes a test
 unfoldable pub allowed_number : Width → (ℕ → Bool) → List ℕ → Option ℕ
 allowed_number w test front = let n = from_le_bytes w front in if test n then Some n else None
 
 abbrev pub number : Width → (ℕ → Bool) → Form ℕ
-number w test = field (byte_len w) (to_le_bytes w) (allowed_number w test)
+number w test = field (byte_len w) (number_bytes w) (allowed_number w test)
 
 -- so many values, one after another
 unfoldable pub several_at : {A : Type 0} → Form A → ℕ → List ℕ → ℕ → Result (List A × ℕ) ℕ

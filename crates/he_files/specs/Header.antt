@@ -1,5 +1,5 @@
 -- The header of a file: `HBGV`, the kind of the file, the format, and the names of the table and of the key.
-use Rattle.std.specs.Prelude.{ℕ, ◌&&◌, nat_le, List, [], ◌∷◌, ◌++◌, length, Option, Some, None, option_to_list, Result, Ok, Err, codes}
+use Rattle.std.specs.Prelude.{ℕ, ◌&&◌, nat_le, List, [], ◌∷◌, ◌++◌, length, Option, Some, None, option_to_list, Result, Ok, codes}
 use Rattle.line_text.specs.declared.kinds.FileKind.{FileKind}
 use Rattle.line_text.specs.declared.kinds.FileKind.TheVariants.{Table, Template, Secret, Public, Eval, Cipher, Slots, Prog, Seed, Script}
 use Rattle.line_text.specs.Names.{name_of}

@@ -1,7 +1,6 @@
 -- Polynomials in files: their values at the units, modulus by modulus.
-use Rattle.std.specs.Prelude.{ℕ, nat_lt, Bool, false, List, map}
+use Rattle.std.specs.Prelude.{ℕ, nat_lt, false, List, map}
 use Rattle.std.specs.Int.{w64}
-use Rattle.moduli_table.specs.declared.rows.ModRow.{ModRow}
 use Rattle.cyclotomic.specs.Cyclotomic.{degree}
 use Rattle.residue_rows.specs.Kept.{RingSetting, rows_kept, values_each, interpolated_each}
 use Rattle.he_files.specs.Form.{Form, number, several, each, written_as}

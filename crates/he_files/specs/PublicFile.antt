@@ -1,5 +1,5 @@
 -- The file of a public key: its polynomials b and a, over the chain.
-use Rattle.std.specs.Prelude.{ℕ, List, ◌++◌, length, Result, Ok, Err}
+use Rattle.std.specs.Prelude.{ℕ, List, ◌++◌, length, Result}
 use Rattle.line_text.specs.declared.kinds.FileKind.TheVariants as kinds
 use Rattle.residue_rows.specs.Kept.{RingSetting}
 use Rattle.scheme_laws.specs.Keys.{PublicKey}

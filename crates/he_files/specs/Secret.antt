@@ -1,5 +1,5 @@
 -- The file of a secret: a byte for each of its entries.
-use Rattle.std.specs.Prelude.{ℕ, zero, suc, ◌-◌, ◌==◌, ◌&&◌, nat_le, List, [], ◌∷◌, ◌++◌, map, slice_index, Option, Some, None, option_and_then, Result, Ok, Err, ℤ, pos, negsuc, unsigned_abs, if◌then◌else◌}
+use Rattle.std.specs.Prelude.{ℕ, zero, suc, ◌-◌, ◌==◌, ◌&&◌, nat_le, List, [], ◌∷◌, ◌++◌, map, slice_index, Option, Some, None, option_and_then, Result, Ok, ℤ, pos, negsuc, unsigned_abs, if◌then◌else◌}
 use Rattle.line_text.specs.declared.kinds.FileKind.TheVariants as kinds
 use Rattle.cyclotomic.specs.Cyclotomic.{degree}
 use Rattle.residue_rows.specs.Kept.{RingSetting}
