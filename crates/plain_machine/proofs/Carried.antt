@@ -20,7 +20,7 @@ use Rattle.plain_machine.specs.Carrying.{Carries, HoldsNoKeys, Past, IsHistory, 
 use Rattle.plain_machine.specs.CarryingLaws.{EmptyLaw, CarryingLaw, HistoryLaw, DecryptsLaw, PrintsArray}
 use Rattle.plain_machine.proofs.CommandNames.{NamesKey, command_names}
 use Rattle.plain_machine.proofs.Keeping.{Keeps, command_keeps}
-use Rattle.plain_machine.proofs.Lower.{LowerLaws}
+use Rattle.plain_machine.specs.Lower.{LowerLaws}
 use Rattle.plain_machine.proofs.Printing.{PrintsSealed, decrypt_prints}
 
 pub empty : EmptyLaw

@@ -34,7 +34,7 @@ use Rattle.plain_machine.specs.Carrying.{HoldsScheme, scheme, HoldsSecret, Carri
 use Rattle.plain_machine.proofs.CommandNames.{NamesKey}
 use Rattle.plain_machine.proofs.FreshBound.{fresh_spelled}
 use Rattle.plain_machine.proofs.Growth.{held_grows, new_held, absent_grows, At, Names, other_kind, new_name}
-use Rattle.plain_machine.proofs.Lower.{LowerLaws}
+use Rattle.plain_machine.specs.Lower.{LowerLaws}
 use Rattle.plain_machine.proofs.Reading.{chained_of, table_read, scheme_is, secret_read, public_read}
 
 -- ---- what is carried lasts when files are added

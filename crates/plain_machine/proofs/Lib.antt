@@ -1,7 +1,6 @@
 pub mod Growth
 pub mod CommandNames
 pub mod FreshBound
-pub mod Lower
 pub mod Reading
 pub mod Keeping
 pub mod Printing

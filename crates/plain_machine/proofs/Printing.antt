@@ -19,7 +19,7 @@ use Rattle.plain_machine.specs.PlainState.{Sealed, PlainState}
 use Rattle.plain_machine.specs.Carrying.{scheme, CarriesSecret, CarriesCipher, Carries}
 use Rattle.plain_machine.proofs.Growth.{At}
 use Rattle.plain_machine.proofs.Keeping.{first_absent}
-use Rattle.plain_machine.proofs.Lower.{LowerLaws}
+use Rattle.plain_machine.specs.Lower.{LowerLaws}
 use Rattle.plain_machine.proofs.Reading.{chained_of, scheme_is, secret_read, cipher_read}
 
 -- a file that the machine does not find

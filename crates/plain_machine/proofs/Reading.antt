@@ -26,7 +26,7 @@ use Rattle.cli_machine.specs.Plain.{HoldsTable}
 use Rattle.cli_machine.proofs.Chains.{bind_ok, read_of, same_names_is}
 use Rattle.plain_machine.specs.PlainState.{Sealed}
 use Rattle.plain_machine.specs.Carrying.{HoldsScheme, scheme, HoldsSecret, CarriesPublic, CarriesCipher}
-use Rattle.plain_machine.proofs.Lower.{LowerLaws}
+use Rattle.plain_machine.specs.Lower.{LowerLaws}
 
 -- ---- what a file begins with, and what is behind it
 secret_parts : (header : Header) (s : List ℤ) → secret_bytes header s ≡ header_bytes kinds.Secret header ++ map entry_byte s

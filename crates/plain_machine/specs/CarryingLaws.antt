@@ -20,7 +20,7 @@ EmptyLaw = (files : List File) → HoldsNoKeys files → Carries nothing files
 abbrev pub CarryingLaw : Type 0
 CarryingLaw = (words : List (List ℕ)) (outcome : Result Unit Cause) (state : PlainState) (old new : List File) → Carries state old → Leaves outcome (line_on words old) old new → Carries (after_line outcome words state old) new
 
--- so do many lines, from files without keys and ciphertexts
+-- many lines do so, from files without keys and ciphertexts
 abbrev pub HistoryLaw : Type 0
 HistoryLaw = (history : List Past) (start now : List File) → HoldsNoKeys start → IsHistory history start now → Carries (reached history start nothing) now
 
@@ -37,3 +37,23 @@ DecryptPrints state words end old new =
 
 abbrev pub DecryptsLaw : Type 0
 DecryptsLaw = (words : List (List ℕ)) (end : Status) (state : PlainState) (files : List File) (old new : List ℕ) → Carries state files → Shows (outcome_of end) (line_on words files) old new → DecryptPrints state words end old new
+
+-- ---- what a session says of each plain machine that its files carry
+-- the files after a line carry the state that the line makes
+abbrev pub CarriesOn : List (List ℕ) → Result Unit Cause → List File → List File → Type 0
+CarriesOn words outcome old new = (state : PlainState) → Carries state old → Carries (after_line outcome words state old) new
+
+-- a `decrypt` that is done has printed the array of its ciphertext
+abbrev pub PrintsArrays : List (List ℕ) → Status → List File → List ℕ → List ℕ → Type 0
+PrintsArrays words end files old new = (state : PlainState) → Carries state files → DecryptPrints state words end old new
+
+-- From any files without keys and ciphertexts, by any lines that led from them to the files before this line: the files after it
+-- carry the state that the plain machine reaches by it.
+abbrev pub Reaches : List (List ℕ) → Result Unit Cause → List File → List File → Type 0
+Reaches words outcome old new =
+    (history : List Past) (start : List File) → HoldsNoKeys start → IsHistory history start old → Carries (after_line outcome words (reached history start nothing) old) new
+
+-- By such lines again: a `decrypt` that is done has printed the array that this machine has for its ciphertext.
+abbrev pub PrintsReached : List (List ℕ) → Status → List File → List ℕ → List ℕ → Type 0
+PrintsReached words end files old new =
+    (history : List Past) (start : List File) → HoldsNoKeys start → IsHistory history start files → DecryptPrints (reached history start nothing) words end old new
