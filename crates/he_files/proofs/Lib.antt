@@ -4,7 +4,13 @@ pub mod FieldForms
 pub mod FormLists
 pub mod HeaderForms
 pub mod SecretForms
+pub mod PolynomialForms
+pub mod BoundForms
+pub mod RowText
 pub mod FileForms
 pub mod SecretFiles
+pub mod PublicFiles
+pub mod CipherFiles
+pub mod CipherSteps
 pub mod Loops
 pub mod ChainModuli

@@ -1,5 +1,7 @@
 //! Polynomials in files: their values at the units, modulus by modulus.
-ghost use Rattle.std.specs.Prelude.{◌≡◌, ◌+◌, ◌≤◌, ◌++◌, length, map, take, IfOk, OnOk};
+ghost use Rattle.std.specs.Prelude.{◌≡◌, ◌+◌, ◌<◌, ◌≤◌, ◌++◌, [], false, length, get_or, map, take, IfOk, OnOk};
+ghost use Rattle.std.specs.List.{flat_map};
+ghost use Rattle.residue_rows.specs.Kept.{IsKept, polynomial_values};
 ghost use Rattle.std.specs.Int.{w64, from_le_bytes};
 ghost use Rattle.he_files.specs.Form.{several, number_bytes};
 ghost use Rattle.he_files.specs.Polynomial as form;
@@ -7,21 +9,23 @@ ghost use Rattle.he_files.specs.Reads.{Reads};
 
 use crate::faults::ReadFault;
 use crate::fields::bytes_at;
+use double_crt::{Dcrt, RingTables};
 use moduli_table::Moduli;
 use std::alloc::{AllocError, Global};
+use std::rc::Rc;
 
-/// The number of eight bytes at an offset, below q.
+/// The number of eight bytes at an offset, below q, and the offset after it.
 #[tactic(auto, unfolding(crate::specs::Form::field_at, crate::specs::Form::allowed_number))]
-fn residue_at(bytes: &[u8], at: usize, q: u64) -> Result<u64, ReadFault>
+fn residue_at(bytes: &[u8], at: usize, q: u64) -> Result<(u64, usize), ReadFault>
     requires { at ≤ length bytes.now }
-    ensures value { Reads (λ x. (x, at + 8)) result ((form.residue q).read bytes.now at) }
-    ensures inside { OnOk result (at + 8 ≤ length bytes.now) }
+    ensures value { Reads (λ found. found) result ((form.residue q).read bytes.now at) }
+    ensures inside { IfOk result (λ found. found.1 ≤ length bytes.now) }
 {
     let x = u64_of(bytes_at(bytes, at, 8)?);
     if x >= q {
         return Err(ReadFault::Bad(at as u64));
     }
-    Ok(x)
+    Ok((x, at + 8))
 }
 
 /// The number that eight bytes spell, the low one first.
@@ -49,8 +53,9 @@ fn row_at(
     let mut row = Vec::new(alloc);
     let mut at = at;
     for _ in 0..n {
-        row.push(residue_at(bytes, at, q)?)?;
-        at += 8;
+        let (x, after) = residue_at(bytes, at, q)?;
+        row.push(x)?;
+        at = after;
     }
     Ok((row, at))
 }
@@ -80,10 +85,54 @@ fn rows_at(
     Ok((rows, at))
 }
 
+/// A polynomial over the first moduli of the chain, from an offset on, and the offset after it.
+pub(crate) fn polynomial_at(
+    alloc: Global,
+    tables: &Rc<RingTables>,
+    bytes: &[u8],
+    at: usize,
+    count: u32,
+) -> Result<(Dcrt, usize), ReadFault>
+    requires inside { at ≤ length bytes.now }
+    requires few { count ≤ length tables.now.value.moduli.chain }
+    ensures value { Reads (λ found. (found.0.rows, found.1)) result ((form.polynomial tables.now.value count).read bytes.now at) }
+    ensures tables { IfOk result (λ found. found.0.tables ≡ tables.now.value) }
+    ensures chain_rows { IfOk result (λ found. found.0.chain_rows ≡ count) }
+    ensures special { IfOk result (λ found. found.0.special ≡ false) }
+    ensures kept { IfOk result (λ found. IsKept found.0) }
+    ensures inside { IfOk result (λ found. found.1 ≤ length bytes.now) }
+{
+    let (rows, end) = rows_at(alloc, bytes, at, tables.n(), tables.moduli(), count)?;
+    let polynomial = Dcrt::from_values(alloc, tables, count, false, &rows)?;
+    Ok((polynomial, end))
+}
+
 /// Appends a number in eight bytes, the low one first.
 #[tactic(auto, unfolding(crate::specs::Form::number_bytes))]
 fn put_u64(out: &mut Vec<u8>, x: u64) -> Result<(), AllocError>
     ensures { OnOk result (out.new.items ≡ out.old.items ++ number_bytes w64 x) }
 {
     out.extend_from_slice(&x.to_le_bytes())
+}
+
+/// Appends one row of values.
+fn put_row(out: &mut Vec<u8>, x: &Dcrt, row: u32) -> Result<(), AllocError>
+    requires { row < length x.now.rows }
+    ensures { OnOk result (out.new.items ≡ out.old.items ++ flat_map (number_bytes w64) (get_or (polynomial_values x.now) row [])) }
+{
+    for unit in 0..x.tables().n() {
+        put_u64(out, x.value(row, unit))?;
+    }
+    Ok(())
+}
+
+/// Appends a polynomial over moduli of the chain.
+pub(crate) fn put_polynomial(out: &mut Vec<u8>, x: &Dcrt) -> Result<(), AllocError>
+    requires { x.now.special ≡ false }
+    ensures { OnOk result (out.new.items ≡ out.old.items ++ (form.polynomial x.now.tables x.now.chain_rows).spelled x.now.rows) }
+{
+    for row in 0..x.chain_rows() {
+        put_row(out, x, row)?;
+    }
+    Ok(())
 }
