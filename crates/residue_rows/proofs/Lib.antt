@@ -1,0 +1,11 @@
+pub mod RowsRing
+pub mod RowsResidues
+pub mod WholeRows
+pub mod ValuesSums
+pub mod ValuesRows
+pub mod ValuesMean
+pub mod ValuesKeep
+pub mod ModuliKept
+pub mod KeptValues
+pub mod ValuesActions
+pub mod ValuesEach

@@ -1,7 +1,6 @@
 -- What is said of the moduli of accepted tables, and of the values of polynomials kept by residues.
-use Rattle.std.specs.Prelude.{◌≡◌, ℕ, ◌%◌, ◌^◌, ◌<◌, ◌≤◌, Bool, All, List, length}
+use Rattle.std.specs.Prelude.{◌≡◌, ℕ, ◌%◌, ◌^◌, ◌<◌, ◌≤◌, Bool, All, length}
 use Rattle.algebra.specs.Whole.{AreInvertible}
-use Rattle.moduli_table.specs.declared.rows.ModRow.{ModRow}
 use Rattle.residue_rows.specs.ValueLaws.{IsAcceptedRoot}
 use Rattle.residue_rows.specs.Kept.{RingSetting, IsSetting, rows_kept, moduli_kept, root_of, Residues, IsKept, AreAlike, polynomial_values}
 

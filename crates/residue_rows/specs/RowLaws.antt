@@ -1,10 +1,9 @@
 -- What is said of rows of residues, for m above 0 and moduli above 0.
-use Rattle.std.specs.Prelude.{◌≡◌, ◌↔◌, ℕ, ◌*◌, ◌%◌, ◌<◌, IsTrue, All, List, length, map, ℤ, pos, ◌+ℤ◌, ◌*ℤ◌}
+use Rattle.std.specs.Prelude.{◌≡◌, ◌↔◌, ℕ, ◌%◌, ◌<◌, IsTrue, All, List, length, ℤ}
 use Rattle.algebra.specs.Ring.{HeldLaws, whole_numbers}
 use Rattle.algebra.specs.Hom.{Preserves}
 use Rattle.algebra.specs.Poly.{coeff}
 use Rattle.algebra.specs.Whole.{SameModulo, AreInvertible, product_of}
-use Rattle.algebra.specs.Divisor.{UnitModulo}
 use Rattle.cyclotomic.specs.Cyclotomic.{R, IsElement, substituted, multiple}
 use Rattle.residue_rows.specs.Rows.{AreRows, are_rows, rows_of, R_each, multiple_each, substituted_each}
 use Rattle.residue_rows.specs.Whole.{whole, IsWhole}

@@ -1,9 +1,9 @@
 -- Polynomials of R kept by their residues: for each of some moduli a row of n residues, n the degree of Phi_m.
-use Rattle.std.specs.Prelude.{◌≡◌, ℕ, ◌-◌, ◌*◌, ◌<◌, nat_lt, Bool, true, false, ◌&&◌, eqb, All, List, [], ◌∷◌, map, length, get_or, ℤ, pos, nat_abs}
+use Rattle.std.specs.Prelude.{◌≡◌, ℕ, ◌<◌, nat_lt, Bool, true, false, ◌&&◌, All, List, [], ◌∷◌, map, length, ℤ}
 use Rattle.std.specs.List.{AllZip}
 use Rattle.algebra.specs.Ring.{Ops, residues}
-use Rattle.algebra.specs.Poly.{all_held, row_held, scaled, at_power, remainder, modulo}
-use Rattle.algebra.specs.Whole.{below, residue, balanced, product_of}
+use Rattle.algebra.specs.Poly.{row_held, scaled, at_power, remainder, modulo}
+use Rattle.algebra.specs.Whole.{residue}
 use Rattle.cyclotomic.specs.Cyclotomic.{phi, degree}
 
 -- Phi_m modulo q

@@ -4,7 +4,6 @@ use Rattle.algebra.specs.Ring.{residues}
 use Rattle.algebra.specs.Poly.{scaled, at_power, remainder}
 use Rattle.algebra.specs.Divisor.{UnitModulo, units}
 use Rattle.algebra.specs.Whole.{residue, below}
-use Rattle.cyclotomic.specs.Cyclotomic.{degree}
 use Rattle.cyclotomic.specs.RootLaws.{IsHeldRoot}
 use Rattle.residue_rows.specs.Rows.{phi_modulo, R_modulo}
 use Rattle.residue_rows.specs.Values.{Root, IsRow, value_of, values_of, interpolated}
