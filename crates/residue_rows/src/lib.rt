@@ -3,3 +3,7 @@
 //!
 //! Nothing here runs: each function is a law, whose statement stands in `specs/` and whose proof stands in `proofs/`.
 #![tactic(auto)]
+
+pub mod kept;
+pub mod rows;
+pub mod values;
