@@ -9,3 +9,4 @@ pub mod ModuliKept
 pub mod KeptValues
 pub mod ValuesActions
 pub mod ValuesEach
+pub mod KeptCuts

@@ -1,20 +1,21 @@
 -- What is done to the values at each modulus is done to the polynomial that has them.
-use Rattle.std.specs.Prelude.{◌≡◌, ℕ, zero, suc, ◌+◌, ◌-◌, ◌*◌, ◌%◌, ◌<◌, List, [], ◌∷◌, ◌++◌, map, length, take, drop, ℤ, refl}
+use Rattle.std.specs.Prelude.{◌≡◌, ℕ, ◌+◌, ◌-◌, ◌*◌, ◌%◌, ◌<◌, List, [], ◌∷◌, map, length, ℤ, refl, get_or}
 use Rattle.std.specs.List.{AllZip}
-use Rattle.std.proofs.Common.{◌∙◌, ap, ap₂, arith}
+use Rattle.std.proofs.Common.{◌∙◌, ap, ap₂, mod-lt}
 use Rattle.std.proofs.lemmas.List.Elements.{All-head, All-tail}
-use Rattle.algebra.specs.Divisor.{UnitModulo}
+use Rattle.algebra.specs.Divisor.{UnitModulo, units}
 use Rattle.algebra.specs.Ring.{residues}
-use Rattle.algebra.specs.Poly.{scaled}
+use Rattle.algebra.specs.Poly.{scaled, at_power, remainder}
 use Rattle.algebra.specs.Whole.{residue}
 use Rattle.moduli_table.specs.declared.rows.ModRow.{ModRow}
-use Rattle.residue_rows.specs.Rows.{AreRows, R_modulo, each, both, R_each, multiple_each, substituted_each}
+use Rattle.residue_rows.specs.Rows.{AreRows, phi_modulo, R_modulo, each, both, R_each, multiple_each, substituted_each}
 use Rattle.residue_rows.specs.Values.{IsRow, interpolated}
 use Rattle.residue_rows.specs.ValueLaws.{IsAcceptedRoot, pointwise}
 use Rattle.residue_rows.specs.Kept.{root_of, values_each, interpolated_each}
 use Rattle.residue_rows.proofs.KeptValues.{moduli_of_rows, AreRoots}
 use Rattle.residue_rows.proofs.ValuesMean.{values_are}
-use Rattle.residue_rows.proofs.ValuesActions.{IsMoved, row_in, interpolated-sum, interpolated-negative, interpolated-difference, interpolated-product, interpolated-multiple, interpolated-moved}
+use Rattle.residue_rows.proofs.ValuesActions.{IsMoved, pointwise_row, map_row, row_in, interpolated-sum, interpolated-negative, interpolated-difference, interpolated-product, interpolated-multiple, interpolated-moved, placed, placed_row, placed_moved}
+use Rattle.residue_rows.proofs.ValuesRows.{on}
 
 -- the entries at each modulus are moved from the places of the units j to those of j k
 abbrev pub AreMoved : ℕ → ℕ → List (List ℕ) → List (List ℕ) → Type 0
@@ -98,28 +99,40 @@ module _ (m : ℕ) where
   each-moved k p u (r ∷ rs) A (x ∷ v) [] h s t = absurd s
   each-moved k p u (r ∷ rs) A (x ∷ v) (y ∷ w) h s t = ap₂ (λ x a. x ∷ a) (interpolated-moved m (root_of r) (All-head Rooted r rs A) k x y p u h.0 s.0 t.0) (each-moved k p u rs (All-tail Rooted r rs A) v w h.1 s.1 t.1)
 
-  -- the first moduli, the later ones, and moduli joined
-  pub interpolated_each-take : (n : ℕ) (rs : List ModRow) (v : List (List ℕ)) → interpolated_each m (take n rs) (take n v) ≡ take n (interpolated_each m rs v)
-  unfolding interpolated_each
-  interpolated_each-take zero rs v = refl
-  interpolated_each-take (suc n) [] v = refl
-  interpolated_each-take (suc n) (r ∷ rs) [] = refl
-  interpolated_each-take (suc n) (r ∷ rs) (x ∷ v) = ap (λ a. interpolated m (root_of r) x ∷ a) (interpolated_each-take n rs v)
+  -- rows that are made row by row
+  pub both_in : (f : ℕ → List ℕ → List ℕ → List ℕ) → ((r : ModRow) → IsAcceptedRoot m (root_of r) → (x y : List ℕ) → IsRow m r.q x → IsRow m r.q y → IsRow m r.q (f r.q x y)) → (rs : List ModRow) → AreRoots m rs → (v w : List (List ℕ)) → AreRows m (moduli_of_rows rs) v → AreRows m (moduli_of_rows rs) w → AreRows m (moduli_of_rows rs) (both f (moduli_of_rows rs) v w)
+  unfolding both
+  both_in f s [] A v w h k = tt
+  both_in f s (r ∷ rs) A [] w h k = absurd h
+  both_in f s (r ∷ rs) A (x ∷ v) [] h k = absurd k
+  both_in f s (r ∷ rs) A (x ∷ v) (y ∷ w) h k = (s r (All-head Rooted r rs A) x y h.0 k.0, both_in f s rs (All-tail Rooted r rs A) v w h.1 k.1)
 
-  pub interpolated_each-drop : (n : ℕ) (rs : List ModRow) (v : List (List ℕ)) → interpolated_each m (drop n rs) (drop n v) ≡ drop n (interpolated_each m rs v)
-  unfolding interpolated_each
-  interpolated_each-drop zero rs v = refl
-  interpolated_each-drop (suc n) [] v = refl
-  interpolated_each-drop (suc n) (r ∷ rs) [] = none (drop n rs)
-    where
-      none : (rs : List ModRow) → interpolated_each m rs [] ≡ []
-      none [] = refl
-      none (r ∷ rs) = refl
-  interpolated_each-drop (suc n) (r ∷ rs) (x ∷ v) = interpolated_each-drop n rs v
+  pub each_in : (f : ℕ → List ℕ → List ℕ) → ((r : ModRow) → IsAcceptedRoot m (root_of r) → (x : List ℕ) → IsRow m r.q x → IsRow m r.q (f r.q x)) → (rs : List ModRow) → AreRoots m rs → (v : List (List ℕ)) → AreRows m (moduli_of_rows rs) v → AreRows m (moduli_of_rows rs) (each f (moduli_of_rows rs) v)
+  unfolding each
+  each_in f s [] A v h = tt
+  each_in f s (r ∷ rs) A [] h = absurd h
+  each_in f s (r ∷ rs) A (x ∷ v) h = (s r (All-head Rooted r rs A) x h.0, each_in f s rs (All-tail Rooted r rs A) v h.1)
 
-  pub interpolated_each-append : (rs ss : List ModRow) (v w : List (List ℕ)) → length rs ≡ length v → interpolated_each m (rs ++ ss) (v ++ w) ≡ interpolated_each m rs v ++ interpolated_each m ss w
-  unfolding interpolated_each
-  interpolated_each-append [] ss [] w e = refl
-  interpolated_each-append [] ss (x ∷ v) w e = absurd (omega (arith, e))
-  interpolated_each-append (r ∷ rs) ss [] w e = absurd (omega (arith, e))
-  interpolated_each-append (r ∷ rs) ss (x ∷ v) w e = ap (λ a. interpolated m (root_of r) x ∷ a) (interpolated_each-append rs ss v w (omega (arith, e)))
+  module _ (rs : List ModRow) (A : AreRoots m rs) where
+    pub sum_in : (v w : List (List ℕ)) → AreRows m (moduli_of_rows rs) v → AreRows m (moduli_of_rows rs) w → AreRows m (moduli_of_rows rs) (both (λ q. pointwise (λ x y. (x + y) % q)) (moduli_of_rows rs) v w)
+    sum_in = both_in (λ q. pointwise (λ x y. (x + y) % q)) (λ r B x y h k. pointwise_row m r.q (λ x y. (x + y) % r.q) (λ x y. mod-lt (x + y) (on m (root_of r) B)) x y h) rs A
+
+    pub product_in : (v w : List (List ℕ)) → AreRows m (moduli_of_rows rs) v → AreRows m (moduli_of_rows rs) w → AreRows m (moduli_of_rows rs) (both (λ q. pointwise (λ x y. (x * y) % q)) (moduli_of_rows rs) v w)
+    product_in = both_in (λ q. pointwise (λ x y. (x * y) % q)) (λ r B x y h k. pointwise_row m r.q (λ x y. (x * y) % r.q) (λ x y. mod-lt (x * y) (on m (root_of r) B)) x y h) rs A
+
+    pub difference_in : (v w : List (List ℕ)) → AreRows m (moduli_of_rows rs) v → AreRows m (moduli_of_rows rs) w → AreRows m (moduli_of_rows rs) (both (λ q. pointwise (λ x y. (x + (q - y)) % q)) (moduli_of_rows rs) v w)
+    difference_in = both_in (λ q. pointwise (λ x y. (x + (q - y)) % q)) (λ r B x y h k. pointwise_row m r.q (λ x y. (x + (r.q - y)) % r.q) (λ x y. mod-lt (x + (r.q - y)) (on m (root_of r) B)) x y h) rs A
+
+    pub negative_in : (v : List (List ℕ)) → AreRows m (moduli_of_rows rs) v → AreRows m (moduli_of_rows rs) (each (λ q. map (λ x. (q - x) % q)) (moduli_of_rows rs) v)
+    negative_in = each_in (λ q. map (λ x. (q - x) % q)) (λ r B. map_row m r.q (λ x. (r.q - x) % r.q) (λ x. mod-lt (r.q - x) (on m (root_of r) B))) rs A
+
+    pub multiple_in : (c : ℤ) (v : List (List ℕ)) → AreRows m (moduli_of_rows rs) v → AreRows m (moduli_of_rows rs) (each (λ q. map (λ x. (residue q c * x) % q)) (moduli_of_rows rs) v)
+    multiple_in c = each_in (λ q. map (λ x. (residue q c * x) % q)) (λ r B. map_row m r.q (λ x. (residue r.q c * x) % r.q) (λ x. mod-lt (residue r.q c * x) (on m (root_of r) B))) rs A
+
+    -- values moved by the place of each unit
+    module _ (k : ℕ) (places : List ℕ) (known : (u : ℕ) → u < length (units m) → get_or places (get_or (units m) u 0) 0 ≡ u) where
+      pub substituted_in : (v : List (List ℕ)) → AreRows m (moduli_of_rows rs) v → AreRows m (moduli_of_rows rs) (each (λ q row. map (λ j. get_or row (get_or places ((j * k) % m) 0) 0) (units m)) (moduli_of_rows rs) v)
+      substituted_in = each_in (λ q row. map (λ j. get_or row (get_or places ((j * k) % m) 0) 0) (units m)) (λ r B. placed_row m (root_of r) B k places known) rs A
+
+      pub each-substituted : 0 < k → UnitModulo m k → (v : List (List ℕ)) → AreRows m (moduli_of_rows rs) v → interpolated_each m rs (each (λ q row. map (λ j. get_or row (get_or places ((j * k) % m) 0) 0) (units m)) (moduli_of_rows rs) v) ≡ substituted_each m (moduli_of_rows rs) k (interpolated_each m rs v)
+      each-substituted p u = each_each (λ q row. map (λ j. get_or row (get_or places ((j * k) % m) 0) 0) (units m)) (λ q row. remainder (residues q) (phi_modulo m q) (at_power (residues q) k row)) (λ r B x h. interpolated-moved m (root_of r) B k x (placed m (root_of r) B k places known x h) p u h (placed_row m (root_of r) B k places known x h) (placed_moved m (root_of r) B k places known x h)) rs A

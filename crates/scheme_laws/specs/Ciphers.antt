@@ -1,5 +1,5 @@
 -- Ciphertexts: encryption, decryption, and what a ciphertext stands for.
-use Rattle.std.specs.Prelude.{◌≡◌, ℕ, suc, ◌+◌, ◌*◌, ◌≤◌, ◌<◌, List, length, All, ℤ, pos, nat_abs}
+use Rattle.std.specs.Prelude.{◌≡◌, ℕ, suc, ◌+◌, ◌*◌, ◌≤◌, List, length, All, ℤ, pos, nat_abs}
 use Rattle.cyclotomic.specs.Cyclotomic.{IsElement}
 use Rattle.cyclotomic.specs.Norm.{NormAtMost}
 use Rattle.draw_stream.specs.Draw.{Stream, errors_at, smalls_at}

@@ -1,8 +1,8 @@
 -- Secret and public keys.
 use Rattle.std.specs.Prelude.{◌≡◌, ℕ, suc, ◌+◌, ◌*◌, ◌≤◌, List, [], ◌∷◌, length, All, ℤ, pos, nat_abs}
 use Rattle.cyclotomic.specs.Cyclotomic.{degree}
-use Rattle.draw_stream.specs.Draw.{Stream, after, errors_at, uniforms_at}
-use Rattle.draw_stream.specs.Sparse.{IsSparse, sparse_of, sparse_words}
+use Rattle.draw_stream.specs.Draw.{Stream, errors_at, uniforms_at}
+use Rattle.draw_stream.specs.Sparse.{IsSparse, sparse_of}
 use Rattle.residue_rows.specs.Rows.{AreRows, multiple_each}
 use Rattle.residue_rows.specs.Kept.{RingSetting}
 use Rattle.scheme_laws.specs.Scheme.{top, moduli_at, ring_at, rows_at}

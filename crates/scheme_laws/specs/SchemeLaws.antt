@@ -1,9 +1,8 @@
 -- What is said of keys and ciphertexts, for a scheme whose table has passed its checks.
-use Rattle.std.specs.Prelude.{◌≡◌, ℕ, suc, ◌+◌, ◌*◌, ◌/◌, ◌<◌, ◌≤◌, List, length, ℤ, pos}
-use Rattle.algebra.specs.Ring.{whole_numbers}
+use Rattle.std.specs.Prelude.{◌≡◌, ℕ, ◌*◌, ◌/◌, ◌^◌, ◌<◌, ◌≤◌, List, ℤ, pos}
 use Rattle.cyclotomic.specs.Cyclotomic.{R, IsElement, multiple}
-use Rattle.cyclotomic.specs.Norm.{one_norm}
-use Rattle.draw_stream.specs.Draw.{Stream, errors_at, smalls_at}
+use Rattle.cyclotomic.specs.Norm.{one_norm, height}
+use Rattle.draw_stream.specs.Draw.{Stream, errors_at}
 use Rattle.slot_array.specs.Arrays.{Array, IsArray}
 use Rattle.slot_laws.specs.Slots.{encode}
 use Rattle.noise_bound.specs.Machine.{IsSizes}
@@ -13,9 +12,9 @@ use Rattle.scheme_laws.specs.Scheme.{SchemeSetting, IsScheme, sizes_of, top, mod
 use Rattle.scheme_laws.specs.Keys.{PublicKey, n_of, IsSecret, IsError, IsPublicOf, public_part, secret_drawn, public_drawn, uniform_rows}
 use Rattle.scheme_laws.specs.Ciphers.{Cipher, IsCipher, IsSmall, limit_at, encrypted, encryption_drawn, decrypted, Stands}
 
--- the sizes of an accepted table are such that its bounds are made
+-- the sizes of an accepted table are such that its bounds are made, where the height fits 31 bits
 abbrev pub SizesLaw : Type 0
-SizesLaw = (r : RingSetting) → IsSetting r → IsSizes (sizes_of r)
+SizesLaw = (r : RingSetting) → IsSetting r → height r.moduli.m < 2 ^ 31 → IsSizes (sizes_of r)
 
 -- draws are secrets, errors, small polynomials and rows
 pub record DrawsAre (r : RingSetting) : Type 0 where
