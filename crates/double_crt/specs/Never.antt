@@ -1,0 +1,4 @@
+-- What no value keeps.
+
+unfoldable pub Never : Type 0
+Never = ⊥
