@@ -1,2 +1,3 @@
 pub mod DrawSteps
 pub mod RowSteps
+pub mod KeySteps

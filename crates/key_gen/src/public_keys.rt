@@ -29,9 +29,10 @@ pub fn public(
     ensures of_secret { IfOk result (λ k. IsPublicOf tables.now.value secret.now.coeffs.items (key_of k)) }
     ensures moved { OnOk result (draws.new ≡ after draws.old (public_words tables.now.value)) }
 {
-    let rows = tables.chain_len();
-    let a = uniform_rows(alloc, tables, rows, draws)?;
-    let e = errors(alloc, tables.n(), draws)?;
+    let ring: &RingTables = tables;
+    let rows = ring.chain_len();
+    let a = uniform_rows(alloc, ring, rows, draws)?;
+    let e = errors(alloc, ring.n(), draws)?;
     let a = Dcrt::from_residues(alloc, tables, rows, false, &a)?;
     let b = hidden(alloc, tables, &a, secret, &e)?;
     Ok(Public { b, a })

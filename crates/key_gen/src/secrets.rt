@@ -22,6 +22,7 @@ pub fn secret(
     ensures is_secret { IfOk result (λ s. IsSecret tables.now.value s.coeffs.items) }
     ensures moved { OnOk result (draws.new ≡ after draws.old (sparse_words tables.now.value.weight)) }
 {
-    let coeffs = draws.sparse(alloc, tables.n(), tables.weight())?;
+    let ring: &RingTables = tables;
+    let coeffs = draws.sparse(alloc, ring.n(), ring.weight())?;
     Ok(Secret { coeffs })
 }
