@@ -15,7 +15,7 @@ use Rattle.scheme_laws.proofs.Drawn.{draws_are, drawn_error}
 use Rattle.key_gen.specs.Drawn.{first_moduli}
 
 -- draws from a later place of the same stream
-errors_at-after : (s : Stream) (k n : ℕ) → errors_at (after s k) (s.place + k) n ≡ errors_at s (s.place + k) n
+pub errors_at-after : (s : Stream) (k n : ℕ) → errors_at (after s k) (s.place + k) n ≡ errors_at s (s.place + k) n
 unfolding errors_at word
 errors_at-after s k n = refl
 
