@@ -11,6 +11,7 @@ pub mod StrideSteps
 pub mod Shifts
 pub mod Folding
 pub mod PassSteps
+pub mod ExactSteps
 pub mod LargeSteps
 pub mod MemberSteps
 pub mod FactorSteps

@@ -1,5 +1,6 @@
 pub mod Division
 pub mod Kept
+pub mod Powers
 pub mod Primes
 pub mod Strides
 pub mod Tall

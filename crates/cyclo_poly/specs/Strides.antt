@@ -3,10 +3,10 @@ use Rattle.std.specs.Prelude.{ℕ, ◌+◌, ◌-◌, ◌%◌, ◌<◌, ◌≤◌
 use Rattle.std.specs.List.{All}
 use Rattle.algebra.specs.Ring.{whole_numbers}
 use Rattle.algebra.specs.Power.{less}
-use Rattle.algebra.specs.Series.{Series}
-use Rattle.algebra.specs.Poly.{SameCoeffs, times}
+use Rattle.algebra.specs.Series.{Series, product}
+use Rattle.algebra.specs.Poly.{coeff, SameCoeffs, times}
 use Rattle.algebra.specs.Whole.{residue}
-use Rattle.cyclotomic.specs.Cyclotomic.{power_less_one, phi}
+use Rattle.cyclotomic.specs.Cyclotomic.{power_less_one, phi, degree}
 
 -- f times X^j - 1 for each of the strides j
 unfoldable pub strided : List ℕ → List ℤ → List ℤ
@@ -36,3 +36,7 @@ IsLessNext q j a b = (i : ℕ) → get_or b i 0 ≡ (get_or a i 0 + (q - get_or 
 -- the places of b are those of a, each less the ones further on, modulo q
 abbrev pub IsLess : ℕ → List ℕ → List ℕ → List ℕ → Type 0
 IsLess q js a b = (i : ℕ) → get_or b i 0 ≡ residue q (less_all js (λ k. pos (get_or a k 0)) i)
+
+-- row begins at place n, the degree of Phi_d, with the quotient of a by Phi_d, modulo q: place i of a is the product's place i + n
+abbrev pub IsPassed : ℕ → ℕ → List ℤ → List ℕ → Type 0
+IsPassed q d a row = (i : ℕ) → residue q (coeff whole_numbers a i) ≡ residue q (product whole_numbers (coeff whole_numbers (phi d)) (λ k. pos (get_or row k 0)) (i + degree d))

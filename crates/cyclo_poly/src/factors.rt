@@ -6,6 +6,7 @@ ghost use Rattle.algebra.specs.Poly.{coeff, quotient_by};
 ghost use Rattle.cyclotomic.specs.Cyclotomic.{phi, power_less_one};
 ghost use Rattle.cyclo_poly.specs.Tall.{AllSmall, is_large, has_large_factor};
 
+use crate::exact::exact_quotient;
 use crate::members::{small_member, small_quotient, zero_row};
 use std::alloc::{AllocError, Global};
 
@@ -37,6 +38,9 @@ fn divided_by_member(alloc: Global, left: &[i64], d: usize) -> Result<Option<Vec
     let Some(member) = small_member(alloc, d)? else {
         return Ok(None);
     };
+    if let Some(exact) = exact_quotient(alloc, left, d, &member)? {
+        return Ok(Some(exact));
+    }
     let quotient = small_quotient(alloc, left, &member)?;
     Ok(quotient)
 }

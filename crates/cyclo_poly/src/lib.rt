@@ -3,6 +3,7 @@
 
 mod cyclo;
 mod division;
+mod exact;
 mod factors;
 mod lists;
 mod members;

@@ -5,13 +5,13 @@ use Rattle.std.proofs.lemmas.Bool.{lt-ltb, and_parts, and_from}
 use Rattle.std.proofs.lemmas.Simd.{map-map}
 use Rattle.algebra.specs.Ring.{CommRing, HeldLaws, residues}
 use Rattle.algebra.specs.Hom.{Preserves}
-use Rattle.algebra.specs.Poly.{all_held, plus, times, value_at, IsMonic, remainder}
+use Rattle.algebra.specs.Poly.{all_held, plus, scaled, times, value_at, IsMonic, remainder}
 use Rattle.algebra.specs.HeldRing.{Held, held_ops}
 use Rattle.algebra.proofs.Held.{held_ring}
 use Rattle.algebra.proofs.HeldLists.{values, each_list, lifted, values-lifted, held_preserves}
 use Rattle.algebra.proofs.HeldQuotients.{held_monic, number_preserves}
-use Rattle.algebra.proofs.Maps.{map_plus, map_times, map_remainder}
-use Rattle.algebra.proofs.Over.{over, over-plus, over-times, over-remainder}
+use Rattle.algebra.proofs.Maps.{map_plus, map_scaled, map_times, map_remainder}
+use Rattle.algebra.proofs.Over.{over, over-plus, over-scaled, over-times, over-remainder}
 use Rattle.mod_ring.specs.Laws.{word_laws}
 use Rattle.ext_field.specs.Element.{Extension, IsMonicFactor, IsElement, is_element, elements, number}
 use Rattle.ext_field.specs.Laws.{factor_held, factor_monic, element_laws}
@@ -80,6 +80,9 @@ module _ (f : Extension) (F : IsMonicFactor f) where
       where
         of_values : (a b : List (Held word_held)) → at x (times (residues f.p) (values word_held a) (values word_held b)) ≡ (elements f).mul (at x (values word_held a)) (at x (values word_held b))
         of_values a b = ap (at x) (sym (map_times (held_preserves words) a b)) ∙ sym (seen x (times (held_ops words) a b)) ∙ over-times laws word_ring as_element numbers_kept into x h a b ∙ ap₂ (elements f).mul (seen x a) (seen x b)
+
+    pub at-scaled : (c : ℕ) → c < f.p → (a : List ℕ) → IsTrue (all_held word_held a) → at x (scaled (residues f.p) c a) ≡ (elements f).mul (number f c) (at x a)
+    at-scaled c l = each_list word_held (λ a. at x (scaled (residues f.p) c a) ≡ (elements f).mul (number f c) (at x a)) (λ a. ap (at x) (sym (map_scaled (held_preserves words) (c, lt-ltb c f.p l) a)) ∙ sym (seen x (scaled (held_ops words) (c, lt-ltb c f.p l) a)) ∙ over-scaled laws word_ring as_element numbers_kept into x h (c, lt-ltb c f.p l) a ∙ ap ((elements f).mul (number f c)) (seen x a))
 
     -- at a zero of G a polynomial and its remainder have one value
     pub at-remainder : at x f.factor ≡ (elements f).zero → (a : List ℕ) → IsTrue (all_held word_held a) → at x (remainder (residues f.p) f.factor a) ≡ at x a

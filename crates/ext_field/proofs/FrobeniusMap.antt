@@ -38,7 +38,7 @@ times-add f (suc s) t a = ap (λ n. frob_times f n a) e ∙ ap (frob f) (times-a
     e = omega arith
 
 -- a(X^1) is a
-at_first_power : (o : Ops ℕ) (a : List ℕ) → at_power o 1 a ≡ a
+pub at_first_power : (o : Ops ℕ) (a : List ℕ) → at_power o 1 a ≡ a
 unfolding at_power
 at_first_power o [] = refl
 at_first_power o (c ∷ a) = ap (λ l. c ∷ l) (at_first_power o a)
@@ -76,7 +76,7 @@ module _ (f : Extension) (F : IsMonicFactor f) where
   one_word c l = and_from (word_held f F c) true (lt-ltb c f.p l) refl
 
   -- a(X^k) is the value at X^k
-  powered : (k : ℕ) (a : List ℕ) → IsElement f a → 0 < k → remainder (residues f.p) f.factor (at_power (residues f.p) k a) ≡ at f F (power (elements f) (eta f) k) a
+  pub powered : (k : ℕ) (a : List ℕ) → IsElement f a → 0 < k → remainder (residues f.p) f.factor (at_power (residues f.p) k a) ≡ at f F (power (elements f) (eta f) k) a
   powered k a h l = ap (λ n. remainder (residues f.p) f.factor (at_power (residues f.p) n a)) e ∙ substituted (word_laws f.p F.p_low) f.factor (factor_held f F) (factor_monic f F) (k - 1) a (element_held f a h) ∙ ap (λ n. at f F (power (elements f) (eta f) n) a) (sym e)
     where
       e : k ≡ suc (k - 1)

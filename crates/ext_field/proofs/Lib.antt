@@ -8,3 +8,5 @@ pub mod ElementValues
 pub mod FrobeniusMap
 pub mod Duals
 pub mod Images
+pub mod Linear
+pub mod CombinationSteps

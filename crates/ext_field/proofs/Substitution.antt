@@ -89,7 +89,7 @@ module _ {C : Type 0} {held : C → Bool} {o : Ops C} (L : HeldLaws held o) wher
     power_row zero = laws.one_held
     power_row (suc n) = laws.mul_held x (power (modulo o g) x n) x_row (power_row n)
 
-    shifted_is : (n : ℕ) (f : List C) → IsTrue (all_held held f) → remainder o g (replicate n o.zero ++ f) ≡ (modulo o g).mul (power (modulo o g) x n) (remainder o g f)
+    pub shifted_is : (n : ℕ) (f : List C) → IsTrue (all_held held f) → remainder o g (replicate n o.zero ++ f) ≡ (modulo o g).mul (power (modulo o g) x n) (remainder o g f)
     shifted_is zero f h = sym (laws.one_mul (remainder o g f) (row f h))
     shifted_is (suc n) f h = held_zero_first g (replicate n o.zero ++ f) hg (shifted_held n f h) M ∙ ap ((modulo o g).mul x) (shifted_is n f h) ∙ sym (laws.mul_assoc x (power (modulo o g) x n) (remainder o g f) x_row (power_row n) (row f h))
 

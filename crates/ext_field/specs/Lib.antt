@@ -1,4 +1,5 @@
 pub mod Element
+pub mod Combination
 pub mod Laws
 pub mod FrobeniusLaw
 pub mod Checks

@@ -57,3 +57,15 @@ impl ExtElem {
         })
     }
 }
+
+/// The same elements once more.
+pub(crate) fn copied(alloc: Global, list: &[ExtElem]) -> Result<Vec<ExtElem>, AllocError>
+    ensures { IfOk result (λ r. r.items ≡ list.now) }
+{
+    let mut copies = Vec::new(alloc);
+    for i in 0..list.len() {
+        let copy = list[i].copy(alloc)?;
+        copies.push(copy)?;
+    }
+    Ok(copies)
+}

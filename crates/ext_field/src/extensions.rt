@@ -3,7 +3,7 @@ ghost use Rattle.std.specs.Prelude.{◌≡◌, ◌-◌, ◌^◌, ◌<◌, ◌≤
 ghost use Rattle.ext_field.specs.Element.{IsFrobenius, IsExtension, IsElement, degree};
 ghost use Rattle.ext_field.specs.declared.extensions.ExtFault.TheVariants.{Memory};
 
-use crate::elements::ExtElem;
+use crate::elements::{ExtElem, copied};
 use crate::remainders::Remainders;
 use cyclo_poly::Poly;
 use mod_ring::{Ring, horner, power};
@@ -35,20 +35,22 @@ impl From<AllocError> for ExtFault {
 #[derive(Drop)]
 pub struct Ext {
     pub(crate) base: Remainders,
-    // eta^p
-    pub(crate) image: ExtElem,
+    // the powers of eta^p below d
+    pub(crate) images: Vec<ExtElem>,
 }
 
 impl Model for Ext {
-    ghost use Rattle.std.specs.Prelude.{◌≡◌};
+    ghost use Rattle.std.specs.Prelude.{◌≡◌, map};
     ghost use Rattle.algebra.specs.Power.{power};
-    ghost use Rattle.ext_field.specs.Element.{Extension, IsExtension, elements, eta};
+    ghost use Rattle.algebra.specs.Whole.{below};
+    ghost use Rattle.ext_field.specs.Element.{Extension, IsExtension, degree, elements, eta};
 
     ghost Value = { Extension };
 
     ghost view = { λ s. s.base };
 
-    ghost invariant = { λ s. IsExtension s.base × (s.image ≡ power (elements s.base) (eta s.base) s.base.p) };
+    ghost invariant = { λ s. IsExtension s.base × (s.images.items
+        ≡ map (power (elements s.base) (power (elements s.base) (eta s.base) s.base.p)) (below (degree s.base))) };
 }
 
 impl Ext {
@@ -76,7 +78,8 @@ impl Ext {
         if !base.equal(&value, &zero) {
             return Err(ExtFault::NotFrobenius);
         }
-        Ok(Ext { base, image })
+        let images = base.powers(alloc, &image)?;
+        Ok(Ext { base, images })
     }
 
     /// The same extension once more.
@@ -84,8 +87,8 @@ impl Ext {
         ensures { IfOk result (λ f. f ≡ self.now) }
     {
         let base = Remainders::new(alloc, self.p(), self.factor())?;
-        let image = self.image.copy(alloc)?;
-        Ok(Ext { base, image })
+        let images = copied(alloc, &self.images)?;
+        Ok(Ext { base, images })
     }
 
     /// The modulus p.

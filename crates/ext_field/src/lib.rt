@@ -8,6 +8,7 @@ mod extensions;
 mod laws;
 mod remainder_ring;
 mod remainders;
+mod sums;
 mod traces;
 
 pub use elements::ExtElem;

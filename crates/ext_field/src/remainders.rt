@@ -1,11 +1,15 @@
 //! The remainders by a monic polynomial, whatever its roots are.
-ghost use Rattle.std.specs.Prelude.{◌≡◌, ◌<◌, IfOk, All, map};
+ghost use Rattle.std.specs.Prelude.{◌≡◌, ◌<◌, ◌≤◌, IfOk, All, length, map};
 ghost use Rattle.algebra.specs.Ring.{residues};
+ghost use Rattle.algebra.specs.Power.{power};
 ghost use Rattle.algebra.specs.Poly.{remainder};
+ghost use Rattle.algebra.specs.Whole.{below};
 ghost use Rattle.mod_ring.specs.Zq.{modulus_of};
-ghost use Rattle.ext_field.specs.Element.{IsMonicFactor, IsElement, degree, number, eta};
+ghost use Rattle.ext_field.specs.Combination.{combination};
+ghost use Rattle.ext_field.specs.Element.{IsMonicFactor, IsElement, degree, elements, number, eta};
 
 use crate::elements::ExtElem;
+use crate::sums::{add_multiple, reduce};
 use cyclo_poly::{Poly, Quot, divide_monic};
 use mod_ring::{Ring, Zq};
 use std::alloc::{AllocError, Global};
@@ -139,5 +143,46 @@ impl Remainders {
             list.push(number)?;
         }
         Ok(list)
+    }
+
+    /// The powers of an element, as many as the degree of G.
+    pub fn powers(&self, alloc: Global, a: &ExtElem) -> Result<Vec<ExtElem>, AllocError>
+        requires { IsElement self.now a.now }
+        ensures value { IfOk result
+            (λ r. r.items ≡ map (power (elements self.now) a.now) (below (degree self.now))) }
+    {
+        let degree = self.degree();
+        let mut powers = Vec::new(alloc);
+        let mut power = self.one(alloc)?;
+        for _taken in 0..degree {
+            let next = self.mul(alloc, a, &power)?;
+            powers.push(power)?;
+            power = next;
+        }
+        Ok(powers)
+    }
+
+    /// The sum of elements times numbers below p, as many as there are numbers.
+    pub fn combination(
+        &self,
+        alloc: Global,
+        factors: &[u64],
+        rows: &[ExtElem],
+    ) -> Result<ExtElem, AllocError>
+        requires few { length factors.now ≤ 64 }
+        requires long { length factors.now ≤ length rows.now }
+        requires factors_in { All (λ c. c < self.now.p) factors.now }
+        requires rows_in { All (λ a. IsElement self.now a) rows.now }
+        ensures value { IfOk result (λ r. r ≡ combination self.now factors.now rows.now) }
+        ensures element { IfOk result (λ r. IsElement self.now r) }
+    {
+        let mut sums = vec![in alloc; 0u64; self.degree() as usize]?;
+        for j in 0..factors.len() {
+            add_multiple(factors[j], rows[j].coeffs(), &mut sums);
+        }
+        reduce(self.p(), &mut sums);
+        Ok(ExtElem {
+            poly: Poly { coeffs: sums },
+        })
     }
 }

@@ -2,19 +2,15 @@
 //! with the number of the cause where it stops.
 #![tactic(auto)]
 
-pub mod cause;
-mod command;
-mod effect;
-mod names;
-mod reading;
-pub mod report;
-pub mod session;
+#[cfg(test)]
+mod sealed;
+#[cfg(test)]
+mod tables;
 #[cfg(test)]
 mod tests;
 
-use crate::cause::{Cause, Status};
-use crate::report::{number, report};
-use crate::session::session;
+use cli_machine::{Cause, Status, number, report};
+use cli_session::session;
 use shelf_core::{FolderShelf, OutSink, Sink};
 use std::env;
 use std::io::ErrorKind;

@@ -1,15 +1,14 @@
 //! Sessions over a shelf and a sink in memory: what is printed, the report and the exit status.
-use crate::cause::{Cause, Status};
-use crate::report::{number, report};
-use crate::session::session;
+use cli_machine::{number, report};
+use cli_session::session;
 use line_text::{FileKind, FileName, Name};
-use shelf_core::{MemShelf, MemSink, are_distinct};
+use shelf_core::{Loaded, MemShelf, MemSink, Put, Shelf, Sink, are_distinct};
 use std::alloc::Global;
 use std::process::Abort;
 use std::test::Fail;
 
 /// The files of the shelf, one a line: its name, a colon, and its text, where `;` stands for a
-/// newline and `~` for byte 13.
+/// newline and `~` for byte 13; behind a `$` stand hexadecimal digits, two a byte.
 const FILES: &str =
     "a.table:m = 7;p = 2;factor = [1, 1, 0, 1];dual = [[1,0,0],[0,0,1],[0,1,0]];generators = [[6, 2]];
 turned.table:generators=[[6,2]]#~;factor=[1,1,0,1]~;dual=[[1,0,0],[0,0,1],[0,1,0],]~;p=0x2;m=+7
@@ -25,6 +24,19 @@ twin.table:m = 7;p = 2;factor = [1, 1, 0, 1];dual = [[1,0,0],[0,0,1],[0,1,0]];ge
 longer.table:m = 7;p = 2;factor = [1, 1, 0, 1, 0];dual = [[1,0,0],[0,0,1],[0,1,0]];generators = [[6, 2]];
 broken.table:m =
 empty.table:
+ma.tmpl:m = 7;p = 2;factor = [1, 1, 0, 1];dual = [[1,0,0],[0,0,1],[0,1,0]];generators = [[6, 2]];weight = 2;digits = [1, 1, 1];chain = [469762049, 7340033, 998244353];special = [31525197391593473];
+mb.tmpl:m = 7;p = 2;factor = [1, 1, 0, 1];dual = [[1,0,0],[0,0,1],[0,1,0]];generators = [[6, 2]];weight = 2;digits = [1];chain = [113];special = [337];
+mc.tmpl:m = 32;p = 17;factor = [14, 0, 1];dual = [[9,0],[0,3]];generators = [[31, 2], [5, 4]];weight = 4;digits = [1, 1];chain = [4222124650659841, 7881299347898369];special = [31525197391593473];
+md.tmpl:m = 24;p = 5;factor = [2, 1, 1];dual = [[4,2],[2,4]];generators = [[7, 2], [13, 2]];weight = 2;digits = [1, 1];chain = [3799912185593857, 4222124650659841];special = [1945555039024054273];
+rootless.tmpl:m = 7;p = 2;factor = [1, 1, 0, 1];dual = [[1,0,0],[0,0,1],[0,1,0]];generators = [[6, 2]];weight = 2;digits = [1];chain = [15];special = [337];
+second.tmpl:m = 7;p = 2;factor = [1, 1, 0, 1];dual = [[1,0,0],[0,0,1],[0,1,0]];generators = [[6, 2]];weight = 2;digits = [1];chain = [113];special = [15];
+nop.tmpl:m = 7;factor = [1, 1, 0, 1];dual = [[1,0,0],[0,0,1],[0,1,0]];generators = [[6, 2]];weight = 2;digits = [1];chain = [113];special = [337];
+even.tmpl:m = 7;p = 2;factor = [1, 1, 0, 1];dual = [[1,0,0],[0,0,1],[0,1,0]];generators = [[6, 2]];weight = 2;digits = [1];chain = [112];special = [337];
+full.tmpl:m = 7;p = 2;factor = [1, 1, 0, 1];dual = [[1,0,0],[0,0,1],[0,1,0]];generators = [[6, 2]];weight = 2;digits = [1];chain = [113];special = [337];inverse = [[], [170]];
+eight.tmpl:m = 8;p = 2;factor = [1, 1, 0, 1];dual = [[1,0,0],[0,0,1],[0,1,0]];generators = [[6, 2]];weight = 2;digits = [1];chain = [113];special = [337];
+equal.tmpl:m = 7;p = 2;factor = [1, 1, 0, 1];dual = [[1,0,0],[0,0,1],[0,1,0]];generators = [[6, 2]];weight = 2;digits = [1];chain = [113];special = [113];
+broken.tmpl:m =
+empty.tmpl:
 prod.prog:input x;input y;z = mul x y;output z;
 same.prog:input x;output x;
 sum.prog:input x;input y;z = add x y;output z;
@@ -54,7 +66,8 @@ one.slots:0 1 0;
 none.slots:
 three.slots:0 1 0;1 0 0;1 0 0;";
 
-/// What each line prints and reports, in the same spelling, and the exit status.
+/// What each line prints and reports, in the same spelling, and the exit status. Lines with `|`
+/// between run one after the other on one shelf, and the status is that of the last.
 const ROWS: &str = "clear a prod x y:1 1 0;1 1 1;:0
 clear a same x:0 1 0;1 0 0;:0
 clear b prod x y:1 1 0;1 1 1;:0
@@ -110,7 +123,34 @@ clear a empty x:stopped 0 BadProgram 1;:7
 clear a same none:stopped 0 BadSlots 1;:6
 clear a same two:stopped 0 BadSlots 1;:6
 clear a same one:stopped 0 BadSlots 2;:6
-clear a same three:stopped 0 BadSlots 3;:6";
+clear a same three:stopped 0 BadSlots 3;:6
+maketable:stopped 0 Words;:2
+maketable mb:stopped 0 Words;:2
+maketable mb made made:stopped 0 Words;:2
+maketable mb Made:stopped 0 Words;:2
+maketable q made:stopped 0 NoFile q.tmpl;:3
+maketable nop made:stopped 0 BadTemplate p;:9
+maketable nop b:stopped 0 BadTemplate p;:9
+maketable broken made:stopped 0 BadTemplate text;:9
+maketable empty made:stopped 0 BadTemplate m;:9
+maketable even made:stopped 0 BadTemplate chain;:9
+maketable full made:stopped 0 BadTemplate other;:9
+maketable mb b:stopped 0 NameTaken b.table;:4
+maketable rootless b:stopped 0 NameTaken b.table;:4
+maketable rootless made:stopped 0 NoRoot 0;:12
+maketable second made:stopped 0 NoRoot 1;:12
+maketable eight made:stopped 0 BadTable NotOrder;:5
+maketable equal made:stopped 0 BadTable Inverse 0 1;:5
+maketable eight made|table made:stopped 0 BadTable NotOrder;stopped 0 NoFile made.table;:3
+maketable ma made|table made:m 7 n 6 p 2 d 3 slots 2;dim 0 generator 6 size 2 good;chain 3 special 1 columns 3;height 1 weight 2;fresh 1086 switch 27 settle 54;limit 0 234881024;limit 1 3288334791*2^19;limit 2 3057123754*2^49;:0
+maketable mb made|table made:m 7 n 6 p 2 d 3 slots 2;dim 0 generator 6 size 2 good;chain 1 special 1 columns 1;height 1 weight 2;fresh 1086 switch 27 settle 54;limit 0 56;:0
+maketable mc made|table made:m 32 n 16 p 17 d 2 slots 8;dim 0 generator 31 size 2 good;dim 1 generator 5 size 4 bad;chain 2 special 1 columns 2;height 1 weight 4;fresh 57248 switch 720 settle 1440;limit 0 4026531840*2^19;limit 1 3523215360*2^72;:0
+maketable md made|table made:m 24 n 8 p 5 d 2 slots 4;dim 0 generator 7 size 2 good;dim 1 generator 13 size 2 good;chain 2 special 1 columns 2;height 1 weight 2;fresh 4416 switch 72 settle 144;limit 0 3623878656*2^19;limit 1 3397386240*2^71;:0
+maketable ma made|clear made prod x y|clear made same x:1 1 0;1 1 1;0 1 0;1 0 0;:0
+maketable mb made|clear made prod x y:1 1 0;1 1 1;:0
+maketable mc made|clear made third count:2 1;3 1;4 1;1 1;6 1;7 1;8 1;5 1;:0
+maketable md made|clear made both four:4 0;3 0;2 0;1 0;:0
+maketable ma made|maketable mb made|clear made same x:stopped 0 NameTaken made.table;0 1 0;1 0 0;:0";
 
 /// The bytes that the spelling of a text stands for.
 fn text_of(alloc: Global, spelling: &str) -> Result<Vec<u8>, Fail> {
@@ -125,13 +165,39 @@ fn text_of(alloc: Global, spelling: &str) -> Result<Vec<u8>, Fail> {
     Ok(text)
 }
 
+/// The bytes of hexadecimal digits, two each.
+fn bytes_of(alloc: Global, digits: &str) -> Result<Vec<u8>, Fail> {
+    let mut bytes = Vec::new(alloc);
+    let mut high = None;
+    for digit in digits.bytes() {
+        let value = match digit {
+            b'0'..=b'9' => digit - b'0',
+            b'a'..=b'f' => digit - b'a' + 10,
+            _ => return Err(Fail::from("no digit")),
+        };
+        high = match high {
+            None => Some(value << 4),
+            Some(first) => {
+                bytes.push(first | value)?;
+                None
+            }
+        };
+    }
+    Ok(bytes)
+}
+
 /// The file name of a name and an extension with a dot between.
 fn file_name(alloc: Global, text: &str) -> Result<FileName, Fail> {
     let (name, extension) = text.split_once('.').ok_or("no dot")?;
     let kind = match extension {
         "table" => FileKind::Table,
+        "tmpl" => FileKind::Template,
         "prog" => FileKind::Prog,
         "slots" => FileKind::Slots,
+        "seed" => FileKind::Seed,
+        "sk" => FileKind::Secret,
+        "pk" => FileKind::Public,
+        "ct" => FileKind::Cipher,
         _ => return Err(Fail::from("no kind")),
     };
     let name = Name::read(alloc, name.as_bytes())?.ok_or("no name")?;
@@ -143,7 +209,11 @@ fn files(alloc: Global, list: &str) -> Result<Vec<(FileName, Vec<u8>)>, Fail> {
     let mut files = Vec::new(alloc);
     for row in list.lines() {
         let (name, text) = row.split_once(':').ok_or("no colon")?;
-        files.push((file_name(alloc, name)?, text_of(alloc, text)?))?;
+        let bytes = match text.strip_prefix("$") {
+            Some(digits) => bytes_of(alloc, digits)?,
+            None => text_of(alloc, text)?,
+        };
+        files.push((file_name(alloc, name)?, bytes))?;
     }
     Ok(files)
 }
@@ -157,26 +227,56 @@ fn words_of(alloc: Global, line: &str) -> Result<Vec<String>, Fail> {
     Ok(words)
 }
 
-/// Runs a line over these files, where these calls of the shelf and of the sink fail. Gives what was
-/// printed and the report, one after the other, and the status.
+/// Whether a line that is done saves a file.
+fn is_saving(line: &str) -> bool {
+    line.starts_with("maketable ")
+        || line.starts_with("keygen ")
+        || line.starts_with("pubkey ")
+        || line.starts_with("encrypt ")
+}
+
+/// The bytes of a file of the shelf.
+fn held(alloc: Global, shelf: &mut MemShelf, name: &str) -> Result<Vec<u8>, Fail> {
+    match shelf.load(alloc, &file_name(alloc, name)?) {
+        Loaded::Found(bytes) => Ok(bytes),
+        _ => Err(Fail::from("no file")),
+    }
+}
+
+/// Runs lines, one after the other, over these files, where these calls of the shelf and of the sink
+/// fail. Gives what was printed and reported, and the last exit status. A line `same A B` compares two files.
 fn run<R: Abort + AllocGlobal>(
     rt: &R,
-    line: &str,
+    lines: &str,
     files: Vec<(FileName, Vec<u8>)>,
     shelf_failing: &[u64],
     sink_failing: &[u64],
-) -> Result<(Vec<u8>, Status), Fail> {
+) -> Result<(Vec<u8>, u8), Fail> {
     let alloc = rt.alloc();
-    let count = files.len();
+    let mut count = files.len();
     assert!(rt; are_distinct(files.as_slice()));
     let mut shelf = MemShelf::new(files, Vec::from_slice(alloc, shelf_failing)?);
     let mut sink = MemSink::new(alloc, Vec::from_slice(alloc, sink_failing)?);
-    let words = words_of(alloc, line)?;
-    let status = session(alloc, &words, &mut shelf, &mut sink);
-    assert_eq!(rt; shelf.files().len(), count, "in {line}");
-    let mut text = Vec::from_slice(alloc, sink.bytes())?;
-    text.extend_from_slice(report(alloc, &status)?.as_slice())?;
-    Ok((text, status))
+    let mut ended = 0;
+    for line in lines.split('|') {
+        if let Some(pair) = line.strip_prefix("same ") {
+            let (one, other) = pair.split_once(' ').ok_or("no pair")?;
+            let wanted = held(alloc, &mut shelf, other)?;
+            let found = held(alloc, &mut shelf, one)?;
+            assert_eq!(rt; found.as_slice(), wanted.as_slice(), "in {lines}");
+            continue;
+        }
+        let words = words_of(alloc, line)?;
+        let status = session(alloc, &words, &mut shelf, &mut sink);
+        let text = report(alloc, &status)?;
+        assert!(rt; matches!(sink.put(alloc, text.as_slice()), Put::Done));
+        ended = number(&status);
+        if ended == 0 && is_saving(line) {
+            count += 1;
+        }
+        assert_eq!(rt; shelf.files().len(), count, "in {line}");
+    }
+    Ok((Vec::from_slice(alloc, sink.bytes())?, ended))
 }
 
 /// The files of all cases.
@@ -189,31 +289,37 @@ fn rows() -> &'static str {
     ROWS
 }
 
-/// Runs a line and compares what it prints and reports, and the status.
-fn check<R: Abort + AllocGlobal>(
+/// Runs the lines of each case over these files and compares what they print and report, and the last status.
+pub fn check_rows<R: Abort + AllocGlobal>(rt: &R, list: &str, rows: &str) -> Result<(), Fail> {
+    for row in rows.lines() {
+        let (lines, rest) = row.split_once(':').ok_or("no colon")?;
+        let (text, status) = rest.split_once(':').ok_or("no status")?;
+        check(rt, list, lines, &[], &[], text, status.parse::<u8>()?)?;
+    }
+    Ok(())
+}
+
+/// Runs lines and compares what they print and report, and the last status.
+pub fn check<R: Abort + AllocGlobal>(
     rt: &R,
-    line: &str,
+    list: &str,
+    lines: &str,
     shelf_failing: &[u64],
     sink_failing: &[u64],
     spelling: &str,
     status: u8,
 ) -> Result<(), Fail> {
-    let files = files(rt.alloc(), file_list())?;
-    let (text, ended) = run(rt, line, files, shelf_failing, sink_failing)?;
+    let files = files(rt.alloc(), list)?;
+    let (text, ended) = run(rt, lines, files, shelf_failing, sink_failing)?;
     let wanted = text_of(rt.alloc(), spelling)?;
-    assert_eq!(rt; text.as_slice(), wanted.as_slice(), "in {line}");
-    assert_eq!(rt; number(&ended), status, "in {line}");
+    assert_eq!(rt; text.as_slice(), wanted.as_slice(), "in {lines}");
+    assert_eq!(rt; ended, status, "in {lines}");
     Ok(())
 }
 
 #[test]
 fn sessions(rt: HostRuntime) -> Result<(), Fail> {
-    for row in rows().lines() {
-        let (line, rest) = row.split_once(':').ok_or("no colon")?;
-        let (text, status) = rest.split_once(':').ok_or("no status")?;
-        check(&rt, line, &[], &[], text, status.parse::<u8>()?)?;
-    }
-    Ok(())
+    check_rows(&rt, file_list(), rows())
 }
 
 #[test]
@@ -221,7 +327,19 @@ fn each_call_fails(rt: HostRuntime) -> Result<(), Fail> {
     for call in 0..4u64 {
         check(
             &rt,
+            file_list(),
             "clear a prod x y",
+            &[call],
+            &[],
+            "stopped 0 ShelfFault 1;",
+            30,
+        )?;
+    }
+    for call in 0..3u64 {
+        check(
+            &rt,
+            file_list(),
+            "maketable mb made",
             &[call],
             &[],
             "stopped 0 ShelfFault 1;",
@@ -230,6 +348,7 @@ fn each_call_fails(rt: HostRuntime) -> Result<(), Fail> {
     }
     check(
         &rt,
+        file_list(),
         "clear a prod x y",
         &[4],
         &[0],
@@ -242,15 +361,7 @@ fn each_call_fails(rt: HostRuntime) -> Result<(), Fail> {
 fn session_always_memory(rt: HostRuntime) -> Result<(), Fail> {
     let files = files(rt.alloc(), file_list())?;
     let (_, ended) = run(&rt, "clear a prod x y", files, &[], &[])?;
-    assert!(rt;
-        !matches!(
-            ended,
-            Status::Stopped {
-                cause: Cause::Memory,
-                ..
-            }
-        )
-    );
+    assert!(rt; ended != 40);
     Ok(())
 }
 
@@ -259,9 +370,17 @@ fn names_of_64_bytes(rt: HostRuntime) -> Result<(), Fail> {
     let longest = "abcdefghijklmnopqrstuvwxyz0123456789_abcdefghijklmnopqrstuvwxyz0";
     let line = format!(in rt.alloc(); "clear {longest} same x")?;
     let text = format!(in rt.alloc(); "stopped 0 NoFile {longest}.table;")?;
-    check(&rt, line.as_str(), &[], &[], text.as_str(), 3)?;
+    check(&rt, file_list(), line.as_str(), &[], &[], text.as_str(), 3)?;
     let line = format!(in rt.alloc(); "clear {longest}1 same x")?;
-    check(&rt, line.as_str(), &[], &[], "stopped 0 Words;", 2)
+    check(
+        &rt,
+        file_list(),
+        line.as_str(),
+        &[],
+        &[],
+        "stopped 0 Words;",
+        2,
+    )
 }
 
 /// Runs a program of two instructions and so many blank lines before them.
@@ -272,7 +391,7 @@ fn run_long<R: Abort + AllocGlobal>(rt: &R, blank: usize) -> Result<u8, Fail> {
     let mut files = files(alloc, file_list())?;
     files.push((file_name(alloc, "many.prog")?, text))?;
     let (_, ended) = run(rt, "clear a many x", files, &[], &[])?;
-    Ok(number(&ended))
+    Ok(ended)
 }
 
 #[test]

@@ -1,4 +1,5 @@
 pub mod BalancedLaws
+pub mod BoundForms
 pub mod GroupLaws
 pub mod RoundingLaws
 pub mod Steps

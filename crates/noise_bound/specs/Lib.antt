@@ -1,3 +1,4 @@
+pub mod Form
 pub mod Groups
 pub mod Machine
 pub mod Rounding

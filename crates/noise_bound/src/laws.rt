@@ -1,5 +1,6 @@
 ghost use Rattle.std.specs.Prelude.{◌≡◌, ℕ, ◌<◌, ◌≤◌, List, length, sum};
 ghost use Rattle.std.specs.List.{All};
+ghost use Rattle.noise_bound.specs.Form.{bound_of};
 ghost use Rattle.noise_bound.specs.Groups.{IsGroups, groups};
 ghost use Rattle.noise_bound.specs.Machine.{IsBalanced, balanced};
 ghost use Rattle.noise_bound.specs.Rounding.{IsFloating, IsUp, IsDown, up, down, mantissa, exponent};
@@ -23,6 +24,12 @@ pub fn law_form()
     ensures man { (b : TheBound) → b.man ≡ mantissa (value b) }
     ensures floating { (b : TheBound) → IsFloating (value b) }
     ensures ordered { (a b : TheBound) → value a ≤ value b → a.exp ≤ b.exp }
+{}
+
+/// The bound of a bound's number is that bound, and that of any number is the greatest that is at most it.
+pub fn law_bound_of()
+    ensures back { (b : TheBound) → bound_of (value b) ≡ b }
+    ensures number { (x : ℕ) → value (bound_of x) ≡ down x }
 {}
 
 /// What the groups of a list are: they join to it, none is empty, and each but the last is full.

@@ -6,6 +6,6 @@ mod laws;
 mod rounding;
 mod table;
 
-pub use laws::{law_balanced, law_form, law_groups, law_rounding};
+pub use laws::{law_balanced, law_bound_of, law_form, law_groups, law_rounding};
 pub use rounding::Bound;
 pub use table::BoundTable;

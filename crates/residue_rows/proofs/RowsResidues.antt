@@ -46,12 +46,12 @@ module _ (q : ℕ) (positive : 0 < q) where
   row_substituted m k a = map_remainder K (phi m) (at_power whole_numbers k a) ∙ ap (remainder (residues q) (phi_modulo m q)) (map_at_power K k a)
 
 -- ---- multiples of whole polynomials
-multiple-plus : (k : ℤ) (a b : List ℤ) → multiple k (plus whole_numbers a b) ≡ plus whole_numbers (multiple k a) (multiple k b)
+pub multiple-plus : (k : ℤ) (a b : List ℤ) → multiple k (plus whole_numbers a b) ≡ plus whole_numbers (multiple k a) (multiple k b)
 multiple-plus k [] b = refl
 multiple-plus k (x ∷ a) [] = refl
 multiple-plus k (x ∷ a) (y ∷ b) = ap₂ (λ y z. y ∷ z) (mul_add whole_ring k x y) (multiple-plus k a b)
 
-multiple-mul : (m : ℕ) → 0 < m → (k : ℤ) (a b : List ℤ) → multiple k ((R m).mul a b) ≡ (R m).mul (multiple k a) b
+pub multiple-mul : (m : ℕ) → 0 < m → (k : ℤ) (a b : List ℤ) → multiple k ((R m).mul a b) ≡ (R m).mul (multiple k a) b
 multiple-mul m some k a b = sym (remainder-scaled whole_ring (phi m) (phi_is_monic m some) k (times whole_numbers a b)) ∙ remainder_same whole_ring (phi m) (phi_is_monic m some) (multiple k (times whole_numbers a b)) (times whole_numbers (multiple k a) b) at
   where
     at : (i : ℕ) → coeff whole_numbers (multiple k (times whole_numbers a b)) i ≡ coeff whole_numbers (times whole_numbers (multiple k a) b) i

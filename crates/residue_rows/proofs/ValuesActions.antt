@@ -1,5 +1,5 @@
 -- What is done to n values is done to the polynomial that has them.
-use Rattle.std.specs.Prelude.{◌≡◌, ℕ, zero, suc, ◌+◌, ◌-◌, ◌*◌, ◌%◌, ◌<◌, max, List, map, length, get_or, ℤ}
+use Rattle.std.specs.Prelude.{◌≡◌, ℕ, zero, suc, ◌+◌, ◌-◌, ◌*◌, ◌%◌, ◌<◌, max, List, map, length, get_or, ℤ, All}
 use Rattle.std.proofs.Common.{sym, ◌∙◌, ap, ap₂, subst, arith, mod-lt, le_of_lt}
 use Rattle.std.proofs.lemmas.List.{length-map, get_or-map, ext_get_or}
 use Rattle.std.proofs.lemmas.List.Elements.{All-from_get_or}
@@ -16,7 +16,7 @@ use Rattle.cyclotomic.specs.Cyclotomic.{degree}
 use Rattle.residue_rows.specs.Rows.{phi_modulo, R_modulo}
 use Rattle.residue_rows.specs.Values.{Root, value_of, values_of, IsRow, interpolated}
 use Rattle.residue_rows.specs.ValueLaws.{IsAcceptedRoot, pointwise}
-use Rattle.residue_rows.proofs.ValuesRows.{laws_of, to_held, from_held, entry_in, on, some, place_in, count_is, get_or-values_of, get_or-over, length-over, remainder_row}
+use Rattle.residue_rows.proofs.ValuesRows.{laws_of, to_held, from_held, entry_in, on, some, place_in, count_is, get_or-values_of, get_or-over, length-over, remainder_row, length-values_of}
 use Rattle.residue_rows.proofs.ValuesMean.{values_are, determined}
 use Rattle.residue_rows.proofs.ValuesKeep.{values_keep}
 
@@ -44,6 +44,10 @@ module _ (m : ℕ) (r : Root) (A : IsAcceptedRoot m r) where
   -- the polynomial with the values v
   pub interpolated_only : (v a : List ℕ) → IsRow m r.q v → IsRow m r.q a → values_of m r a ≡ v → interpolated m r v ≡ a
   interpolated_only v a h k e = determined m r A (interpolated m r v) a (row_in v h) k (forth v h ∙ sym e)
+
+  -- it is the remainder of each polynomial with these values at the units
+  pub interpolated_of : (v a : List ℕ) → IsRow m r.q v → All (λ c. c < r.q) a → ((i : ℕ) → i < degree m → value_of r (unit_at m i) a ≡ get_or v i 0) → interpolated m r v ≡ remainder (residues r.q) (phi_modulo m r.q) a
+  interpolated_of v a h k same = interpolated_only v (remainder (residues r.q) (phi_modulo m r.q) a) h (remainder_row m r A a k) ((values_are m r A).remainder a k ∙ ext_get_or 0 (values_of m r a) v (length-values_of m r A a ∙ sym h.0) (λ i l. let s : i < degree m = omega (arith, length-values_of m r A a) in get_or-values_of m r A a i s ∙ same i s))
 
   residue_in : (x : ℕ) → x % r.q < r.q
   residue_in x = mod-lt x (on m r A)

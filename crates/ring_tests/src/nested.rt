@@ -1,6 +1,6 @@
 //! A ring of remainders over a ring of remainders over the residues modulo 3.
 use cyclo_poly::{Poly, Quot};
-use mod_ring::{Ring, Zq, power};
+use mod_ring::{Ring, Zq, horner, power, sum};
 use std::alloc::{AllocError, Global};
 use std::test::Fail;
 
@@ -62,5 +62,19 @@ fn powers(rt: HostRuntime) -> Result<(), Fail> {
             "y^{e}"
         );
     }
+
+    // 1 + y*y + x*y^2 is x
+    let one = ring.one(alloc)?;
+    let first = power(alloc, &ring, &y, 1)?;
+    let second = power(alloc, &ring, &y, 2)?;
+    let coeffs = Vec::from_array(alloc, [one, first, second])?;
+    let value = horner(alloc, &ring, &coeffs, &y)?;
+    assert_eq!(rt; numbers(alloc, &value)?.as_slice(), [0, 1, 0, 0].as_slice());
+    // 1 + y^3
+    let one = ring.one(alloc)?;
+    let third = power(alloc, &ring, &y, 3)?;
+    let list = Vec::from_array(alloc, [one, third])?;
+    let total = sum(alloc, &ring, &list)?;
+    assert_eq!(rt; numbers(alloc, &total)?.as_slice(), [1, 0, 0, 1].as_slice());
     Ok(())
 }

@@ -1,4 +1,5 @@
 pub mod Lines
 pub mod Checks
 pub mod Bounding
-pub mod ChainModulus
+pub mod Passing
+pub mod SchemeMade

@@ -1,23 +1,14 @@
 -- Lines of a text, one after the other.
-use Rattle.std.proofs.Common.{◌≡◌, ◌↔◌, ℕ, suc, ◌+◌, ◌<◌, Bool, true, false, IsTrue, List, ◌++◌, decimal, codes, ap, sym, ◌∙◌, refl, ap₂, arith}
+use Rattle.std.proofs.Common.{◌≡◌, ℕ, ◌<◌, Bool, false, List, ◌++◌, decimal, codes, ap, sym, ◌∙◌, ap₂, arith}
 use Rattle.std.proofs.lemmas.Bool.{ne_eqb}
 use Rattle.std.specs.Prelude.{◌==◌, if◌then◌else◌}
-use Rattle.std.specs.List.{flat_map}
-use Rattle.std.proofs.lemmas.List.{append_assoc, flat_map_more}
-use Rattle.algebra.specs.Whole.{below}
+use Rattle.std.proofs.lemmas.List.{append_assoc}
 use Rattle.hyper_cube.specs.Torus.{Torus, dimension, is_good}
 use Rattle.noise_bound.specs.Rounding.{mantissa}
 use Rattle.noise_bound.specs.Value.{value}
 use Rattle.noise_bound.specs.declared.rounding.Bound.{Bound}
 use Rattle.noise_bound.proofs.Steps.{exponent_of_form, mantissa_of_form}
 use Rattle.table_file.specs.Summary.{bound_text, dimension_line, labelled, newline, quality}
-
--- one line more
-pub line_more : (f : ℕ → List ℕ) (bs ys zs : List ℕ) (i : ℕ) → ys ≡ bs ++ flat_map f (below i) → zs ≡ ys ++ f i → zs ≡ bs ++ flat_map f (below (i + 1))
-line_more f bs ys zs i ys_is zs_is = zs_is ∙ ap (λ y. y ++ f i) ys_is ∙ flat_map_more f bs (below i) i ∙ ap (λ n. bs ++ flat_map f (below n)) e
-  where
-    e : suc i ≡ i + 1
-    e = omega arith
 
 -- how a bound is printed
 pub short_bound : (b : Bound) → b.exp ≡ 0 → bound_text (value b) ≡ decimal b.man
@@ -33,13 +24,6 @@ above_zero man exp e = ap (λ b. if b then decimal man else decimal man ++ codes
 pub long_bound : (b : Bound) → 0 < b.exp → bound_text (value b) ≡ decimal b.man ++ codes "*2^" ++ decimal b.exp
 unfolding bound_text
 long_bound b some = ap (printed (mantissa (value b))) (sym (exponent_of_form b.man b.exp b.fits b.normal)) ∙ ap (λ n. printed n b.exp) (sym (mantissa_of_form b.man b.exp b.fits b.normal)) ∙ above_zero b.man b.exp (ne_eqb b.exp 0 (λ e. omega (arith, some, e)))
-
--- a test that has the truth of another is the other
-pub same_test : (a b : Bool) → (IsTrue a ↔ IsTrue b) → a ≡ b
-same_test true true h = refl
-same_test true false h = sym (h.0 refl)
-same_test false true h = h.1 refl
-same_test false false h = refl
 
 -- the texts on the way to a bound that is not below its powers
 pub put_long : (b : Bound) (t0 t1 t2 : List ℕ) → 0 < b.exp → t1 ≡ t0 ++ decimal b.man → t2 ≡ t1 ++ labelled (codes "*2^") b.exp → t2 ≡ t0 ++ bound_text (value b)

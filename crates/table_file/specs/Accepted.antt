@@ -10,6 +10,7 @@ use Rattle.hyper_cube.specs.Checks.{first_fault as cube_fault}
 use Rattle.moduli_table.specs.Chain.{Chain}
 use Rattle.moduli_table.specs.Checks.{first_fault as moduli_fault}
 use Rattle.moduli_table.specs.declared.rows.ModRow.{ModRow}
+use Rattle.residue_rows.specs.Kept.{RingSetting}
 use Rattle.slot_factor.specs.Packing.{Packing}
 use Rattle.slot_factor.specs.Checks.{first_fault as slots_fault}
 use Rattle.table_keys.specs.Documents.{Document, Moduli, document_of}
@@ -17,7 +18,7 @@ use Rattle.table_keys.specs.declared.documents.RowDocument.{RowDocument}
 use Rattle.table_file.specs.declared.faults.TableFault.{TableFault}
 use Rattle.table_file.specs.declared.faults.TableFault.TheVariants.{Weight, Tall, NotFrobenius}
 use Rattle.table_file.specs.Faults.{◌>>=◌, passed, unless, or_fault, of_document, of_cube, of_slots, of_moduli}
-use Rattle.table_file.specs.Setting.{ChainSetting, Setting}
+use Rattle.table_file.specs.Setting.{Setting}
 
 module _ (t : Document) where
   abbrev pub field_of : Extension
@@ -35,21 +36,21 @@ row_of row = record { q = row.q; zeta = row.zeta; psi = row.psi; plain_inverse =
 abbrev pub chain_of : ℕ → ℕ → Moduli → Chain
 chain_of m p k = record { m = m; p = p; chain = map row_of k.chain; special = map row_of k.special; inverse = k.inverse }
 
--- what is set of these moduli
-abbrev pub setting_for : ℕ → ℕ → Moduli → ChainSetting
-setting_for m p k = record { moduli = chain_of m p k; weight = k.weight; digits = k.digits }
+-- the ring with these moduli
+abbrev pub ring_for : ℕ → ℕ → Moduli → RingSetting
+ring_for m p k = record { moduli = chain_of m p k; weight = k.weight; digits = k.digits }
 
 -- the weight is at most the degree, which is the number of units
 unfoldable pub weighed : ℕ → Option Moduli → Result Unit TableFault
 weighed m None = Ok tt
 weighed m (Some k) = passed (nat_le k.weight (number_of_units m)) Weight
 
--- what is set of the moduli, which are to pass their checks
-unfoldable pub chained : ℕ → ℕ → Option Moduli → Result (Option ChainSetting) TableFault
+-- the ring with the moduli, which are to pass their checks
+unfoldable pub chained : ℕ → ℕ → Option Moduli → Result (Option RingSetting) TableFault
 chained m p None = Ok None
 chained m p (Some k) = do
   right ← unless of_moduli (moduli_fault (chain_of m p k))
-  Ok (Some (setting_for m p k))
+  Ok (Some (ring_for m p k))
 
 -- the checks of the weight, the torus, the size of the coefficients on the way to Phi_m, the extension and the slots
 unfoldable pub passing : Document → Result Unit TableFault

@@ -2,5 +2,5 @@ pub mod Setting
 pub mod Faults
 pub mod Accepted
 pub mod Summary
-pub mod Sizes
 pub mod Shown
+pub mod SchemeLaw

@@ -6,9 +6,10 @@ use Rattle.cyclotomic.specs.Cyclotomic.{degree as phi_degree}
 use Rattle.hyper_cube.specs.Torus.{Torus, slot_count, dimension, is_good}
 use Rattle.noise_bound.specs.Machine.{Sizes, fresh, divided, settled, limit}
 use Rattle.noise_bound.specs.Rounding.{exponent, mantissa}
+use Rattle.residue_rows.specs.Kept.{RingSetting}
+use Rattle.scheme_laws.specs.Scheme.{sizes_of}
 use Rattle.slot_factor.specs.Packing.{Packing}
-use Rattle.table_file.specs.Setting.{ChainSetting, Setting}
-use Rattle.table_file.specs.Sizes.{sizes_of}
+use Rattle.table_file.specs.Setting.{Setting}
 
 -- a word and a number
 abbrev pub labelled : List ℕ → ℕ → List ℕ
@@ -37,7 +38,7 @@ unfoldable pub dimension_line : Torus → ℕ → List ℕ
 dimension_line c i = labelled (codes "dim ") i ++ labelled (codes " generator ") (dimension c i).generator ++ labelled (codes " size ") (dimension c i).size ++ quality (is_good c i) ++ newline
 
 -- how many moduli and groups there are
-unfoldable pub chain_line : ChainSetting → List ℕ
+unfoldable pub chain_line : RingSetting → List ℕ
 chain_line k = labelled (codes "chain ") (length k.moduli.chain) ++ labelled (codes " special ") (length k.moduli.special) ++ labelled (codes " columns ") (length k.digits) ++ newline
 
 unfoldable pub height_line : Sizes → List ℕ
@@ -54,7 +55,7 @@ unfoldable pub limit_lines : Sizes → List ℕ
 limit_lines t = flat_map (limit_line t) (below (length t.chain))
 
 -- what is printed of the moduli
-unfoldable pub chain_lines : Option ChainSetting → List ℕ
+unfoldable pub chain_lines : Option RingSetting → List ℕ
 chain_lines None = []
 chain_lines (Some k) = chain_line k ++ height_line (sizes_of k) ++ bounds_line (sizes_of k) ++ limit_lines (sizes_of k)
 

@@ -1,22 +1,25 @@
 //! The checks of a document that has the shape of a table.
-ghost use Rattle.std.specs.Prelude.{◌≡◌, ◌≤◌, ◌<◌, ◌-◌, not, All, IfOk, Ok, length, map, option_map};
+ghost use Rattle.std.specs.Prelude.{◌≡◌, ◌≤◌, ◌<◌, ◌-◌, not, All, IfOk, Ok, length, map};
+ghost use Rattle.std.specs.Option.{ForSome};
 ghost use Rattle.algebra.specs.Divisor.{number_of_units};
 ghost use Rattle.cyclo_poly.specs.Tall.{is_tall};
 ghost use Rattle.ext_field.specs.Element.{degree, IsElement};
 ghost use Rattle.ext_field.specs.Checks.{frobenius_holds};
 ghost use Rattle.hyper_cube.specs.Checks.{first_fault as cube_fault};
 ghost use Rattle.moduli_table.specs.Checks.{first_fault as moduli_fault};
+ghost use Rattle.scheme_laws.specs.Scheme.{sizes_of};
 ghost use Rattle.slot_factor.specs.Checks.{first_fault as slots_fault};
 ghost use Rattle.table_keys.specs.Shapes.{IsDocument, IsModuli};
-ghost use Rattle.table_file.specs.Accepted.{accepted, chain_of, chained, cube_of, field_of, packing_of, passing, row_of, setting_for, weighed};
+ghost use Rattle.table_file.specs.Accepted.{accepted, chain_of, chained, cube_of, field_of, packing_of, passing, ring_for, row_of, weighed};
 ghost use Rattle.table_file.specs.Faults.{of_cube, of_moduli, of_slots, passed, unless, Gives};
-ghost use Rattle.table_file.specs.Shown.{chain_setting, setting_of};
+ghost use Rattle.table_file.specs.Shown.{ring_of, setting_of};
 ghost use Rattle.table_file.specs.declared.faults.TableFault.TheVariants.{NotFrobenius, Tall};
 
-use crate::chains::ChainPart;
 use crate::faults::TableFault;
 use crate::tables::Table;
+use cipher_core::Scheme;
 use cyclo_poly::{Cyclo, CycloFault};
+use double_crt::RingTables;
 use ext_field::{Ext, ExtElem, ExtFault};
 use hyper_cube::{Cube, units};
 use moduli_table::{ModRow, Moduli};
@@ -33,10 +36,10 @@ pub(crate) fn accept(alloc: Global, document: &TableDocument) -> Result<Table, T
     ensures { Gives setting_of result (accepted document.now) }
 {
     let (slots, cyclo) = packed(alloc, document)?;
-    let chain = chain(alloc, document, &cyclo)?;
     let slots = Rc::new(alloc, slots)?;
+    let scheme = scheme(alloc, document, &cyclo, &slots)?;
     Ok(Table {
-        chain,
+        scheme,
         slots,
         cyclo,
     })
@@ -152,73 +155,134 @@ fn elements(alloc: Global, ext: &Ext, rows: &[Vec<u64>]) -> Result<Vec<ExtElem>,
     Ok(list)
 }
 
-/// The moduli, where the document has them.
+/// What the document sets for ciphertexts, where it has moduli.
 #[tactic(auto, unfolding(crate::specs::Accepted::chained))]
-fn chain(
+fn scheme(
     alloc: Global,
     document: &TableDocument,
     cyclo: &Cyclo,
-) -> Result<Option<ChainPart>, TableFault>
+    slots: &Rc<Slots>,
+) -> Result<Option<Scheme>, TableFault>
     requires document { IsDocument document.now }
     requires cyclo { cyclo.now ≡ document.now.m }
+    requires slots { slots.now.value ≡ packing_of document.now }
     requires light { weighed document.now.m document.now.moduli ≡ Ok tt }
-    ensures { Gives (λ chain. option_map chain_setting chain) result (chained document.now.m document.now.p document.now.moduli) }
+    ensures gives { Gives ring_of result (chained document.now.m document.now.p document.now.moduli) }
+    ensures slots { IfOk result (λ scheme. ForSome scheme (λ s. s.slots.value ≡ slots.now.value)) }
+    ensures m { IfOk result (λ scheme. ForSome scheme (λ s. s.tables.value.moduli.m ≡ cyclo.now)) }
 {
     match &document.moduli {
         None => Ok(None),
         Some(moduli) => {
-            let part = chain_part(alloc, document.m, document.p, cyclo, moduli)?;
-            Ok(Some(part))
+            let scheme = scheme_of(alloc, document.m, document.p, cyclo, slots, moduli)?;
+            Ok(Some(scheme))
         }
     }
 }
 
-/// What is set of the moduli, which are to pass their checks.
-fn chain_part(
+/// The scheme of these moduli, which are to pass their checks.
+fn scheme_of(
     alloc: Global,
     m: u32,
     p: u32,
     cyclo: &Cyclo,
+    slots: &Rc<Slots>,
     document: &ModuliDocument,
-) -> Result<ChainPart, TableFault>
+) -> Result<Scheme, TableFault>
     requires m_low { 3 ≤ m }
     requires m_high { m ≤ 65536 }
     requires p_low { 2 ≤ p }
     requires p_high { p ≤ 131071 }
     requires cyclo { cyclo.now ≡ m }
+    requires slots_m { slots.now.value.cube.m ≡ m }
+    requires slots_p { slots.now.value.cube.p ≡ p }
     requires document { IsModuli document.now }
     requires light { document.now.weight ≤ number_of_units m }
     ensures gives { Gives (λ _. tt) result (unless of_moduli (moduli_fault (chain_of m p document.now))) }
-    ensures value { IfOk result (λ part. chain_setting part ≡ setting_for m p document.now) }
+    ensures value { IfOk result (λ scheme. scheme.tables.value ≡ ring_for m p document.now) }
+    ensures slots { IfOk result (λ scheme. scheme.slots.value ≡ slots.now.value) }
 {
     let chain = rows(alloc, document.chain.as_slice())?;
     let special = rows(alloc, document.special.as_slice())?;
-    let moduli = Moduli::new(
+    let tables = ring_tables(
         alloc,
-        m,
         p,
+        cyclo,
+        document,
         chain.as_slice(),
         special.as_slice(),
+    )?;
+    let bounds = bounds(alloc, &tables, chain.as_slice(), special.as_slice())?;
+    Ok(Scheme {
+        tables: Rc::new(alloc, tables)?,
+        slots: slots.clone()?,
+        bounds: Rc::new(alloc, bounds)?,
+    })
+}
+
+/// The ring modulo these moduli, which are to pass their checks.
+fn ring_tables(
+    alloc: Global,
+    p: u32,
+    cyclo: &Cyclo,
+    document: &ModuliDocument,
+    chain: &[ModRow],
+    special: &[ModRow],
+) -> Result<RingTables, TableFault>
+    requires m_low { 3 ≤ cyclo.now }
+    requires m_high { cyclo.now ≤ 65536 }
+    requires p_low { 2 ≤ p }
+    requires p_high { p ≤ 131071 }
+    requires document { IsModuli document.now }
+    requires chain { chain.now ≡ map row_of document.now.chain }
+    requires special { special.now ≡ map row_of document.now.special }
+    requires light { document.now.weight ≤ number_of_units cyclo.now }
+    ensures gives { Gives (λ _. tt) result (unless of_moduli (moduli_fault (chain_of cyclo.now p document.now))) }
+    ensures value { IfOk result (λ tables. tables ≡ ring_for cyclo.now p document.now) }
+{
+    let moduli = Moduli::new(
+        alloc,
+        cyclo.m(),
+        p,
+        chain,
+        special,
         document.inverse.as_slice(),
     )?;
-    let weight = document.weight;
-    let digits = document.digits.to_vec(alloc)?;
-    let bounds = BoundTable::new(
+    let cyclo = cyclo.copy(alloc)?;
+    let tables = RingTables::new(
         alloc,
-        cyclo.degree(),
+        cyclo,
         p,
-        weight,
-        cyclo.height(),
-        moduli_of(alloc, chain.as_slice())?.as_slice(),
-        moduli_of(alloc, special.as_slice())?.as_slice(),
-        digits.as_slice(),
-    )?;
-    Ok(ChainPart {
+        document.weight,
+        document.digits.as_slice(),
         moduli,
-        weight,
-        digits,
-        bounds,
-    })
+    )?;
+    Ok(tables)
+}
+
+/// The bounds of a ring with these rows.
+fn bounds(
+    alloc: Global,
+    tables: &RingTables,
+    chain: &[ModRow],
+    special: &[ModRow],
+) -> Result<BoundTable, AllocError>
+    requires chain { chain.now ≡ tables.now.moduli.chain }
+    requires special { special.now ≡ tables.now.moduli.special }
+    ensures { IfOk result (λ bounds. bounds ≡ sizes_of tables.now) }
+{
+    let chain = moduli_of(alloc, chain)?;
+    let special = moduli_of(alloc, special)?;
+    BoundTable::new(
+        alloc,
+        tables.n(),
+        tables.p(),
+        tables.weight(),
+        tables.cyclo().height(),
+        chain.as_slice(),
+        special.as_slice(),
+        tables.digits(),
+    )
 }
 
 /// The rows of a table as rows of moduli.

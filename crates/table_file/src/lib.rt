@@ -2,14 +2,14 @@
 #![tactic(auto)]
 
 mod accepting;
-mod chains;
 mod faults;
+mod laws;
 mod reading;
 mod summaries;
 mod tables;
 
-pub use chains::ChainPart;
 pub use faults::TableFault;
+pub use laws::law_accepted;
 pub use reading::read_table;
 pub use summaries::summary;
 pub use tables::Table;

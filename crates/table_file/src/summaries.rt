@@ -2,13 +2,14 @@
 ghost use Rattle.std.specs.Prelude.{◌≡◌, ◌++◌, ◌<◌, IfOk, OnOk, length};
 ghost use Rattle.hyper_cube.specs.Torus.{Torus};
 ghost use Rattle.noise_bound.specs.Value.{value};
-ghost use Rattle.table_file.specs.Shown.{chain_setting, setting_of};
-ghost use Rattle.table_file.specs.Sizes.{sizes_of};
+ghost use Rattle.scheme_laws.specs.Scheme.{sizes_of};
+ghost use Rattle.table_file.specs.Shown.{setting_of};
 ghost use Rattle.table_file.specs.Summary.{bound_text, bounded, bounds_line, chain_line, chain_lines, dimension_line, dimension_lines, head_line, height_line, labelled, limit_line, limit_lines, newline, quality, summary_of};
 
-use crate::chains::ChainPart;
 use crate::tables::Table;
+use cipher_core::Scheme;
 use cyclo_poly::Cyclo;
+use double_crt::RingTables;
 use hyper_cube::Cube;
 use line_text::put_number;
 use noise_bound::{Bound, BoundTable};
@@ -116,42 +117,42 @@ fn put_quality(text: &mut Vec<u8>, good: bool) -> Result<(), AllocError>
 fn put_chain(text: &mut Vec<u8>, table: &Table) -> Result<(), AllocError>
     ensures { OnOk result (text.new.items ≡ text.old.items ++ chain_lines (setting_of table.now).chain) }
 {
-    match &table.chain {
+    match &table.scheme {
         None => Ok(()),
-        Some(part) => put_chain_part(text, part, &table.cyclo),
+        Some(scheme) => put_scheme(text, scheme),
     }
 }
 
-/// Appends the lines of these moduli.
-fn put_chain_part(text: &mut Vec<u8>, part: &ChainPart, cyclo: &Cyclo) -> Result<(), AllocError>
-    requires { cyclo.now ≡ part.now.moduli.m }
-    ensures { OnOk result (text.new.items ≡ text.old.items ++ (chain_line (chain_setting part.now) ++ height_line (sizes_of (chain_setting part.now)) ++ bounds_line (sizes_of (chain_setting part.now)) ++ limit_lines (sizes_of (chain_setting part.now)))) }
+/// Appends the lines of the moduli of a scheme.
+fn put_scheme(text: &mut Vec<u8>, scheme: &Scheme) -> Result<(), AllocError>
+    ensures { OnOk result (text.new.items ≡ text.old.items ++ (chain_line scheme.now.tables.value ++ height_line (sizes_of scheme.now.tables.value) ++ bounds_line (sizes_of scheme.now.tables.value) ++ limit_lines (sizes_of scheme.now.tables.value))) }
 {
-    put_counts(text, part)?;
-    put_height(text, part, cyclo)?;
-    put_bounds(text, &part.bounds)?;
-    put_limits(text, &part.bounds, part.moduli.chain_len())
+    let tables = scheme.tables.as_ref();
+    let bounds = scheme.bounds.as_ref();
+    put_counts(text, tables)?;
+    put_height(text, tables)?;
+    put_bounds(text, bounds)?;
+    put_limits(text, bounds, tables.chain_len())
 }
 
 /// Appends how many moduli and groups there are.
 #[tactic(auto, unfolding(crate::specs::Summary::chain_line))]
-fn put_counts(text: &mut Vec<u8>, part: &ChainPart) -> Result<(), AllocError>
-    ensures { OnOk result (text.new.items ≡ text.old.items ++ chain_line (chain_setting part.now)) }
+fn put_counts(text: &mut Vec<u8>, tables: &RingTables) -> Result<(), AllocError>
+    ensures { OnOk result (text.new.items ≡ text.old.items ++ chain_line tables.now) }
 {
-    put_labelled(text, b"chain ", u64::from(part.moduli.chain_len()))?;
-    put_labelled(text, b" special ", u64::from(part.moduli.special_len()))?;
-    put_labelled(text, b" columns ", part.digits.len() as u64)?;
+    put_labelled(text, b"chain ", u64::from(tables.chain_len()))?;
+    put_labelled(text, b" special ", u64::from(tables.special_len()))?;
+    put_labelled(text, b" columns ", tables.digits().len() as u64)?;
     text.extend_from_slice(b"\n")
 }
 
 /// Appends the height and the weight.
 #[tactic(auto, unfolding(crate::specs::Summary::height_line))]
-fn put_height(text: &mut Vec<u8>, part: &ChainPart, cyclo: &Cyclo) -> Result<(), AllocError>
-    requires { cyclo.now ≡ part.now.moduli.m }
-    ensures { OnOk result (text.new.items ≡ text.old.items ++ height_line (sizes_of (chain_setting part.now))) }
+fn put_height(text: &mut Vec<u8>, tables: &RingTables) -> Result<(), AllocError>
+    ensures { OnOk result (text.new.items ≡ text.old.items ++ height_line (sizes_of tables.now)) }
 {
-    put_labelled(text, b"height ", u64::from(cyclo.height()))?;
-    put_labelled(text, b" weight ", u64::from(part.weight))?;
+    put_labelled(text, b"height ", u64::from(tables.height()))?;
+    put_labelled(text, b" weight ", u64::from(tables.weight()))?;
     text.extend_from_slice(b"\n")
 }
 

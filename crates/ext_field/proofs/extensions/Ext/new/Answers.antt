@@ -1,5 +1,7 @@
-use Rattle.std.proofs.Common.{arith, sym, subst}
-use Rattle.ext_field.specs.Element.{Extension, IsMonicFactor}
+use Rattle.std.proofs.Common.{arith, map, ap, sym, ◌∙◌, subst}
+use Rattle.algebra.specs.Power.{power}
+use Rattle.algebra.specs.Whole.{below}
+use Rattle.ext_field.specs.Element.{Extension, IsMonicFactor, degree, elements}
 use Rattle.ext_field.proofs.Making.{never, image_is, frobenius, zero_value}
 use Rattle.ext_field.proofs.extensions.Ext.new.Goals as goal
 
@@ -25,5 +27,5 @@ invariant_of-result c =
         factor = subst IsMonicFactor (sym c.in_ok-base.ensures) F;
         frobenius = frobenius c.in_ok-base.base f c.in_ok-base.ensures c.in_ok-eta.eta c.in_ok-image.image c.in_ok-value.value c.in_ok-zero.zero c.in_ok-numbers.numbers.items c.deref.result.now c.in_ok-eta.ensures.value c.in_ok-image.ensures.value c.in_ok-numbers.ensures.value c.deref.ensures.value c.in_ok-value.ensures.value c.in_ok-zero.ensures.value (c.equal.ensures.0 c.if-not-equal.false);
       },
-      image_is c.in_ok-base.base f c.in_ok-base.ensures c.in_ok-eta.eta c.in_ok-image.image c.in_ok-value.value c.in_ok-zero.zero c.in_ok-numbers.numbers.items c.deref.result.now c.in_ok-eta.ensures.value c.in_ok-image.ensures.value,
+      c.in_ok-images.ensures.value ∙ ap (λ x. map (power (elements c.in_ok-base.base) x) (below (degree c.in_ok-base.base))) (image_is c.in_ok-base.base f c.in_ok-base.ensures c.in_ok-eta.eta c.in_ok-image.image c.in_ok-value.value c.in_ok-zero.zero c.in_ok-numbers.numbers.items c.deref.result.now c.in_ok-eta.ensures.value c.in_ok-image.ensures.value),
     )

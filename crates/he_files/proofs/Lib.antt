@@ -1,0 +1,10 @@
+pub mod Results
+pub mod Forms
+pub mod FieldForms
+pub mod FormLists
+pub mod HeaderForms
+pub mod SecretForms
+pub mod FileForms
+pub mod SecretFiles
+pub mod Loops
+pub mod ChainModuli

@@ -1,5 +1,0 @@
-pub mod Commands
-pub mod Machine
-pub mod Clauses
-pub mod Plain
-pub mod Report

@@ -1,0 +1,6 @@
+//! The keys of the scheme.
+#![tactic(auto)]
+
+mod keys;
+
+pub use keys::{Public, Secret};

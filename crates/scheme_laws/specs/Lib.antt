@@ -1,0 +1,4 @@
+pub mod Scheme
+pub mod Keys
+pub mod Ciphers
+pub mod SchemeLaws
