@@ -30,12 +30,12 @@ def plus(a, b):
     return [(a[i] if i < len(a) else 0) + (b[i] if i < len(b) else 0) for i in range(n)]
 
 
-def divided(a, g):
-    """Quotient and remainder by a monic g."""
+def divided(a, g, p=None):
+    """Quotient and remainder by a monic g, modulo p where it is given."""
     a, d = list(a), len(g) - 1
     quotient = [0] * max(0, len(a) - d)
     for i in reversed(range(len(quotient))):
-        c = quotient[i] = a[i + d]
+        c = quotient[i] = a[i + d] % p if p else a[i + d]
         if c:
             for j, y in enumerate(g):
                 a[i + j] -= c * y
@@ -76,7 +76,7 @@ class Table:
     # E
 
     def reduced(self, a):
-        return [c % self.p for c in divided([c % self.p for c in a], self.factor)[1]]
+        return [c % self.p for c in divided(a, self.factor, self.p)[1]]
 
     def mul(self, a, b):
         return self.reduced(times(a, b))

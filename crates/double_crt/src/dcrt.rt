@@ -1,5 +1,4 @@
 //! Polynomials of R modulo moduli of a table.
-#![tactic(auto, unfolding(crate::specs::Never::Never))]
 ghost use Rattle.std.specs.Prelude.{◌≡◌, ◌<◌, ◌≤◌, IfOk, IsTrue, [], get_or, length, map};
 ghost use Rattle.algebra.specs.Divisor.{UnitModulo};
 ghost use Rattle.cyclotomic.specs.Cyclotomic.{degree};
@@ -7,6 +6,9 @@ ghost use Rattle.residue_rows.specs.Rows.{AreRows, rows_of, multiple_each, subst
 ghost use Rattle.residue_rows.specs.Kept.{IsKept, AreAlike, moduli_kept, moduli_of, ring_of, with_rows, polynomial_values};
 ghost use Rattle.double_crt.specs.Restricted.{restricted};
 
+use crate::fills::{coefficients, extend, fewer_rows, given_rows, small_rows, to_values};
+use crate::row::Row;
+use crate::rows::{add_rows, mul_rows, neg_rows, permute_rows, scale_rows, sub_rows};
 use crate::tables::RingTables;
 use std::alloc::{AllocError, Global};
 use std::marker::Model;
@@ -19,20 +21,19 @@ pub struct Dcrt {
     tables: Rc<RingTables>,
     chain_rows: u32,
     special: bool,
-    rows: Vec<Vec<u64>>,
+    // the values at the units
+    rows: Vec<Row>,
 }
 
 impl Model for Dcrt {
-    ghost use Rattle.std.specs.Prelude.{map};
-    ghost use Rattle.residue_rows.specs.Kept.{Residues, rows_kept, interpolated_each};
+    ghost use Rattle.residue_rows.specs.Kept.{Residues};
+    ghost use Rattle.double_crt.specs.Held.{polynomial_of, IsHeld};
 
     ghost Value = { Residues };
 
-    ghost view = { λ s. record { tables = s.tables.value; chain_rows = s.chain_rows; special = s.special; rows = interpolated_each s.tables.value.moduli.m (rows_kept s.tables.value s.chain_rows s.special) (map (λ row. row.items) s.rows.items) } };
+    ghost view = { λ s. polynomial_of s.tables.value s.chain_rows s.special s.rows.items };
 
-    ghost use Rattle.double_crt.specs.Never.{Never};
-
-    ghost invariant = { λ _. Never };
+    ghost invariant = { λ s. IsHeld s.tables.value s.chain_rows s.special s.rows.items };
 }
 
 impl Dcrt {
@@ -49,8 +50,14 @@ impl Dcrt {
         ensures value { IfOk result (λ a. a ≡ record { tables = tables.now.value; chain_rows = chain_rows; special = special; rows = rows_of (moduli_kept tables.now.value chain_rows special) coeffs.now }) }
         ensures kept { IfOk result IsKept }
     {
-        let _alloc = alloc;
-        Err(AllocError)
+        let mut rows = small_rows(alloc, tables, chain_rows, special, coeffs)?;
+        to_values(alloc, tables, chain_rows, special, &mut rows)?;
+        Ok(Dcrt {
+            tables: tables.clone()?,
+            chain_rows,
+            special,
+            rows,
+        })
     }
 
     /// The polynomial with these rows of n residues, one for each modulus. The one cause to fail is want of memory.
@@ -66,8 +73,14 @@ impl Dcrt {
         ensures value { IfOk result (λ a. a ≡ record { tables = tables.now.value; chain_rows = chain_rows; special = special; rows = map (λ row. row.items) rows.now }) }
         ensures kept { IfOk result IsKept }
     {
-        let _alloc = alloc;
-        Err(AllocError)
+        let mut rows = given_rows(alloc, tables, chain_rows, special, rows)?;
+        to_values(alloc, tables, chain_rows, special, &mut rows)?;
+        Ok(Dcrt {
+            tables: tables.clone()?,
+            chain_rows,
+            special,
+            rows,
+        })
     }
 
     /// The one polynomial that has these values at the units: for each modulus, for each unit j in ascending order, the value
@@ -87,8 +100,13 @@ impl Dcrt {
         ensures values { IfOk result (λ a. polynomial_values a ≡ map (λ row. row.items) rows.now) }
         ensures kept { IfOk result IsKept }
     {
-        let _alloc = alloc;
-        Err(AllocError)
+        let rows = given_rows(alloc, tables, chain_rows, special, rows)?;
+        Ok(Dcrt {
+            tables: tables.clone()?,
+            chain_rows,
+            special,
+            rows,
+        })
     }
 
     /// For each modulus the n residues of the coefficients. The one cause to fail is want of memory.
@@ -96,9 +114,13 @@ impl Dcrt {
         ensures value { IfOk result (λ rows. map (λ row. row.items) rows.items ≡ self.now.rows) }
         ensures kept { IsKept self.now }
     {
-        let _rows = self.chain_rows;
-        let _alloc = alloc;
-        Err(AllocError)
+        coefficients(
+            alloc,
+            &self.tables,
+            self.chain_rows,
+            self.special,
+            &self.rows,
+        )
     }
 
     /// The same polynomial modulo fewer moduli: the first ones of the chain, with the special ones or without them. The one
@@ -114,9 +136,13 @@ impl Dcrt {
         ensures value { IfOk result (λ a. a ≡ restricted self.now chain_rows special) }
         ensures kept { IfOk result IsKept }
     {
-        let _rows = self.chain_rows;
-        let _alloc = alloc;
-        Err(AllocError)
+        let rows = fewer_rows(alloc, &self.rows, self.chain_rows, chain_rows, special)?;
+        Ok(Dcrt {
+            tables: self.tables.clone()?,
+            chain_rows,
+            special,
+            rows,
+        })
     }
 
     /// The same polynomial once more. The one cause to fail is want of memory.
@@ -124,9 +150,14 @@ impl Dcrt {
         ensures value { IfOk result (λ a. a ≡ self.now) }
         ensures kept { IsKept self.now }
     {
-        let _rows = self.chain_rows;
-        let _alloc = alloc;
-        Err(AllocError)
+        let mut rows = Vec::new(alloc);
+        extend(alloc, &mut rows, &self.rows)?;
+        Ok(Dcrt {
+            tables: self.tables.clone()?,
+            chain_rows: self.chain_rows,
+            special: self.special,
+            rows,
+        })
     }
 
     /// Adds another polynomial of the same tables and moduli. Takes no memory.
@@ -135,7 +166,7 @@ impl Dcrt {
         ensures value { self.new ≡ with_rows self.old ((ring_of self.old).add self.old.rows b.now.rows) }
         ensures kept { IsKept self.new }
     {
-        let _rows = self.chain_rows;
+        add_rows(&mut self.rows, &b.rows);
     }
 
     /// Subtracts another polynomial of the same tables and moduli. Takes no memory.
@@ -144,7 +175,7 @@ impl Dcrt {
         ensures value { self.new ≡ with_rows self.old ((ring_of self.old).add self.old.rows ((ring_of self.old).neg b.now.rows)) }
         ensures kept { IsKept self.new }
     {
-        let _rows = self.chain_rows;
+        sub_rows(&mut self.rows, &b.rows);
     }
 
     /// Turns the polynomial into its negative. Takes no memory.
@@ -152,7 +183,7 @@ impl Dcrt {
         ensures value { self.new ≡ with_rows self.old ((ring_of self.old).neg self.old.rows) }
         ensures kept { IsKept self.new }
     {
-        let _rows = self.chain_rows;
+        neg_rows(&mut self.rows);
     }
 
     /// Multiplies by another polynomial of the same tables and moduli. Takes no memory.
@@ -161,7 +192,7 @@ impl Dcrt {
         ensures value { self.new ≡ with_rows self.old ((ring_of self.old).mul self.old.rows b.now.rows) }
         ensures kept { IsKept self.new }
     {
-        let _rows = self.chain_rows;
+        mul_rows(&mut self.rows, &b.rows);
     }
 
     /// Multiplies by a whole number. Takes no memory.
@@ -169,8 +200,7 @@ impl Dcrt {
         ensures value { self.new ≡ with_rows self.old (multiple_each (moduli_of self.old) k self.old.rows) }
         ensures kept { IsKept self.new }
     {
-        let _rows = self.chain_rows;
-        let _k = k;
+        scale_rows(&mut self.rows, k);
     }
 
     /// Writes the polynomial with X^k put for X, for a unit k. Takes no memory.
@@ -182,9 +212,13 @@ impl Dcrt {
         ensures value { out.new ≡ with_rows self.now (substituted_each self.now.tables.moduli.m (moduli_of self.now) k self.now.rows) }
         ensures kept { IsKept out.new }
     {
-        let _rows = self.chain_rows;
-        let _k = k;
-        let _out = out.chain_rows;
+        permute_rows(
+            &self.rows,
+            k,
+            self.tables.units(),
+            self.tables.places(),
+            &mut out.rows,
+        );
     }
 
     /// The value of one row at `omega^j`, where j is the unit with this place, from 0, in the ascending list of units. Takes no
@@ -196,8 +230,7 @@ impl Dcrt {
         ensures below { result < get_or (moduli_of self.now) row 0 }
         ensures kept { IsKept self.now }
     {
-        let _rows = self.chain_rows;
-        row as u64 + unit as u64
+        self.rows[row as usize].word(unit as usize)
     }
 
     /// How many moduli of the chain there are. Takes no memory.

@@ -2,7 +2,13 @@
 #![tactic(auto)]
 
 mod dcrt;
+mod fills;
+mod line;
+mod makes;
+mod row;
+mod rows;
 mod tables;
+mod words;
 
 pub use dcrt::Dcrt;
 pub use tables::RingTables;

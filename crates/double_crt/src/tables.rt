@@ -1,14 +1,19 @@
 //! What all polynomials of one table share.
-#![tactic(auto, unfolding(crate::specs::Never::Never))]
-ghost use Rattle.std.specs.Prelude.{◌≡◌, ◌<◌, ◌≤◌, All, IfOk, length, sum};
+ghost use Rattle.std.specs.Prelude.{◌≡◌, ◌<◌, ◌≤◌, All, IfOk, length, sum, get_or};
 ghost use Rattle.algebra.specs.Divisor.{units as units_of};
 ghost use Rattle.cyclotomic.specs.Cyclotomic.{degree};
 ghost use Rattle.cyclotomic.specs.Norm.{height as height_of};
 ghost use Rattle.mixed_radix.specs.Basis.{IsBasis};
-ghost use Rattle.residue_rows.specs.Kept.{IsSetting};
+ghost use Rattle.moduli_table.specs.Chain.{no_row};
+ghost use Rattle.residue_rows.specs.Kept.{IsSetting, rows_kept};
 ghost use Rattle.double_crt.specs.Bases.{chain_basis, special_basis};
+ghost use Rattle.double_crt.specs.Places.{ArePlaces};
+ghost use Rattle.double_crt.specs.Roots.{roots_of_row};
 
+use crate::line::Line;
+use crate::makes::{lines_of, places_of, radix_of};
 use cyclo_poly::Cyclo;
+use hyper_cube::units;
 use mixed_radix::Radix;
 use moduli_table::Moduli;
 use std::alloc::{AllocError, Global};
@@ -20,9 +25,13 @@ use std::marker::Model;
 pub struct RingTables {
     cyclo: Cyclo,
     moduli: Moduli,
+    p: u32,
     weight: u32,
-    digits: Vec<u32>,
+    groups: Vec<u32>,
     unit_list: Vec<u32>,
+    // for each unit modulo m its place in the list of the units
+    places: Vec<u32>,
+    lines: Vec<Line>,
     chain_radix: Radix,
     special_radix: Radix,
 }
@@ -32,11 +41,11 @@ impl Model for RingTables {
 
     ghost Value = { RingSetting };
 
-    ghost view = { λ s. record { moduli = s.moduli; weight = s.weight; digits = s.digits.items } };
+    ghost use Rattle.double_crt.specs.Tables.{setting_of, HasTables};
 
-    ghost use Rattle.double_crt.specs.Never.{Never};
+    ghost view = { setting_of };
 
-    ghost invariant = { λ _. Never };
+    ghost invariant = { HasTables };
 }
 
 impl RingTables {
@@ -58,8 +67,27 @@ impl RingTables {
         requires digits_sum { sum digits.now ≡ length moduli.chain }
         ensures { IfOk result (λ t. t ≡ record { moduli = moduli; weight = weight; digits = digits.now }) }
     {
-        let _alloc = alloc;
-        Err(AllocError)
+        let m = moduli.m();
+        let chain_len = moduli.chain_len();
+        let special_len = moduli.special_len();
+        let unit_list = units(alloc, m)?;
+        let places = places_of(alloc, m, &unit_list)?;
+        let lines = lines_of(alloc, &moduli)?;
+        let chain_radix = radix_of(alloc, &moduli, 0, chain_len)?;
+        let special_radix = radix_of(alloc, &moduli, chain_len, special_len)?;
+        let groups = Vec::from_slice(alloc, digits)?;
+        Ok(RingTables {
+            cyclo,
+            moduli,
+            p,
+            weight,
+            groups,
+            unit_list,
+            places,
+            lines,
+            chain_radix,
+            special_radix,
+        })
     }
 
     /// The number m.
@@ -67,7 +95,7 @@ impl RingTables {
         ensures value { result ≡ self.now.moduli.m }
         ensures setting { IsSetting self.now }
     {
-        self.weight
+        self.moduli.m()
     }
 
     /// The degree n of Phi_m.
@@ -75,7 +103,7 @@ impl RingTables {
         ensures value { result ≡ degree self.now.moduli.m }
         ensures setting { IsSetting self.now }
     {
-        self.weight
+        self.cyclo.degree()
     }
 
     /// The modulus p.
@@ -83,7 +111,7 @@ impl RingTables {
         ensures value { result ≡ self.now.moduli.p }
         ensures setting { IsSetting self.now }
     {
-        self.weight
+        self.p
     }
 
     /// How many coefficients of a secret are not 0.
@@ -99,7 +127,7 @@ impl RingTables {
         ensures value { result ≡ height_of self.now.moduli.m }
         ensures setting { IsSetting self.now }
     {
-        self.weight
+        self.cyclo.height()
     }
 
     /// How many moduli the chain has.
@@ -107,7 +135,7 @@ impl RingTables {
         ensures value { result ≡ length self.now.moduli.chain }
         ensures setting { IsSetting self.now }
     {
-        self.weight
+        self.moduli.chain_len()
     }
 
     /// How many special moduli there are.
@@ -115,7 +143,7 @@ impl RingTables {
         ensures value { result ≡ length self.now.moduli.special }
         ensures setting { IsSetting self.now }
     {
-        self.weight
+        self.moduli.special_len()
     }
 
     /// The n units modulo m, in ascending order.
@@ -131,7 +159,7 @@ impl RingTables {
         ensures value { result.now ≡ self.now.digits }
         ensures setting { IsSetting self.now }
     {
-        &self.digits
+        &self.groups
     }
 
     /// The moduli with their roots and inverses.
@@ -166,5 +194,39 @@ impl RingTables {
         ensures setting { IsSetting self.now }
     {
         &self.special_radix
+    }
+
+    /// For each unit modulo m its place in the list of the units.
+    pub(crate) fn places(&self) -> &[u32]
+        ensures { ArePlaces self.now.moduli.m result.now }
+    {
+        &self.places
+    }
+
+    /// How many moduli are kept: the first ones of the chain, with the special ones or without them.
+    pub(crate) fn row_count(&self, chain_rows: u32, special: bool) -> u32
+        requires { chain_rows ≤ length self.now.moduli.chain }
+        ensures value { result ≡ length (rows_kept self.now chain_rows special) }
+        ensures setting { IsSetting self.now }
+    {
+        if special {
+            chain_rows + self.moduli.special_len()
+        } else {
+            chain_rows
+        }
+    }
+
+    /// The line of one of the moduli that are kept.
+    pub(crate) fn line(&self, chain_rows: u32, special: bool, i: u32) -> &Line
+        requires fits { chain_rows ≤ length self.now.moduli.chain }
+        requires i_in { i < length (rows_kept self.now chain_rows special) }
+        ensures { result.now ≡ roots_of_row self.now.moduli.m (get_or (rows_kept self.now chain_rows special) i no_row) }
+    {
+        let place = if i < chain_rows {
+            i
+        } else {
+            i - chain_rows + self.moduli.chain_len()
+        };
+        &self.lines[place as usize]
     }
 }

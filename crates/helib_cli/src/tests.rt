@@ -2,13 +2,13 @@
 use cli_machine::{number, report};
 use cli_session::session;
 use line_text::{FileKind, FileName, Name};
-use shelf_core::{MemShelf, MemSink, Put, Sink, are_distinct};
+use shelf_core::{Loaded, MemShelf, MemSink, Put, Shelf, Sink, are_distinct};
 use std::alloc::Global;
 use std::process::Abort;
 use std::test::Fail;
 
 /// The files of the shelf, one a line: its name, a colon, and its text, where `;` stands for a
-/// newline and `~` for byte 13.
+/// newline and `~` for byte 13; behind a `$` stand hexadecimal digits, two a byte.
 const FILES: &str =
     "a.table:m = 7;p = 2;factor = [1, 1, 0, 1];dual = [[1,0,0],[0,0,1],[0,1,0]];generators = [[6, 2]];
 turned.table:generators=[[6,2]]#~;factor=[1,1,0,1]~;dual=[[1,0,0],[0,0,1],[0,1,0],]~;p=0x2;m=+7
@@ -165,6 +165,27 @@ fn text_of(alloc: Global, spelling: &str) -> Result<Vec<u8>, Fail> {
     Ok(text)
 }
 
+/// The bytes of hexadecimal digits, two each.
+fn bytes_of(alloc: Global, digits: &str) -> Result<Vec<u8>, Fail> {
+    let mut bytes = Vec::new(alloc);
+    let mut high = None;
+    for digit in digits.bytes() {
+        let value = match digit {
+            b'0'..=b'9' => digit - b'0',
+            b'a'..=b'f' => digit - b'a' + 10,
+            _ => return Err(Fail::from("no digit")),
+        };
+        high = match high {
+            None => Some(value << 4),
+            Some(first) => {
+                bytes.push(first | value)?;
+                None
+            }
+        };
+    }
+    Ok(bytes)
+}
+
 /// The file name of a name and an extension with a dot between.
 fn file_name(alloc: Global, text: &str) -> Result<FileName, Fail> {
     let (name, extension) = text.split_once('.').ok_or("no dot")?;
@@ -173,6 +194,10 @@ fn file_name(alloc: Global, text: &str) -> Result<FileName, Fail> {
         "tmpl" => FileKind::Template,
         "prog" => FileKind::Prog,
         "slots" => FileKind::Slots,
+        "seed" => FileKind::Seed,
+        "sk" => FileKind::Secret,
+        "pk" => FileKind::Public,
+        "ct" => FileKind::Cipher,
         _ => return Err(Fail::from("no kind")),
     };
     let name = Name::read(alloc, name.as_bytes())?.ok_or("no name")?;
@@ -184,7 +209,11 @@ fn files(alloc: Global, list: &str) -> Result<Vec<(FileName, Vec<u8>)>, Fail> {
     let mut files = Vec::new(alloc);
     for row in list.lines() {
         let (name, text) = row.split_once(':').ok_or("no colon")?;
-        files.push((file_name(alloc, name)?, text_of(alloc, text)?))?;
+        let bytes = match text.strip_prefix("$") {
+            Some(digits) => bytes_of(alloc, digits)?,
+            None => text_of(alloc, text)?,
+        };
+        files.push((file_name(alloc, name)?, bytes))?;
     }
     Ok(files)
 }
@@ -198,8 +227,24 @@ fn words_of(alloc: Global, line: &str) -> Result<Vec<String>, Fail> {
     Ok(words)
 }
 
+/// Whether a line that is done saves a file.
+fn is_saving(line: &str) -> bool {
+    line.starts_with("maketable ")
+        || line.starts_with("keygen ")
+        || line.starts_with("pubkey ")
+        || line.starts_with("encrypt ")
+}
+
+/// The bytes of a file of the shelf.
+fn held(alloc: Global, shelf: &mut MemShelf, name: &str) -> Result<Vec<u8>, Fail> {
+    match shelf.load(alloc, &file_name(alloc, name)?) {
+        Loaded::Found(bytes) => Ok(bytes),
+        _ => Err(Fail::from("no file")),
+    }
+}
+
 /// Runs lines, one after the other, over these files, where these calls of the shelf and of the sink
-/// fail. Gives what was printed and reported, and the last exit status.
+/// fail. Gives what was printed and reported, and the last exit status. A line `same A B` compares two files.
 fn run<R: Abort + AllocGlobal>(
     rt: &R,
     lines: &str,
@@ -214,12 +259,19 @@ fn run<R: Abort + AllocGlobal>(
     let mut sink = MemSink::new(alloc, Vec::from_slice(alloc, sink_failing)?);
     let mut ended = 0;
     for line in lines.split('|') {
+        if let Some(pair) = line.strip_prefix("same ") {
+            let (one, other) = pair.split_once(' ').ok_or("no pair")?;
+            let wanted = held(alloc, &mut shelf, other)?;
+            let found = held(alloc, &mut shelf, one)?;
+            assert_eq!(rt; found.as_slice(), wanted.as_slice(), "in {lines}");
+            continue;
+        }
         let words = words_of(alloc, line)?;
         let status = session(alloc, &words, &mut shelf, &mut sink);
         let text = report(alloc, &status)?;
         assert!(rt; matches!(sink.put(alloc, text.as_slice()), Put::Done));
         ended = number(&status);
-        if ended == 0 && line.starts_with("maketable ") {
+        if ended == 0 && is_saving(line) {
             count += 1;
         }
         assert_eq!(rt; shelf.files().len(), count, "in {line}");
@@ -248,7 +300,7 @@ pub fn check_rows<R: Abort + AllocGlobal>(rt: &R, list: &str, rows: &str) -> Res
 }
 
 /// Runs lines and compares what they print and report, and the last status.
-fn check<R: Abort + AllocGlobal>(
+pub fn check<R: Abort + AllocGlobal>(
     rt: &R,
     list: &str,
     lines: &str,

@@ -1,4 +1,0 @@
--- What no value keeps.
-
-unfoldable pub Never : Type 0
-Never = ⊥
