@@ -37,12 +37,7 @@ pub fn smalls(alloc: Global, n: u32, draws: &mut Draws) -> Result<Vec<i64>, Allo
 }
 
 /// `n` residues modulo q, each by a draw `uniform`.
-fn uniforms(
-    alloc: Global,
-    q: u64,
-    n: u32,
-    draws: &mut Draws,
-) -> Result<Vec<u64>, AllocError>
+fn uniforms(alloc: Global, q: u64, n: u32, draws: &mut Draws) -> Result<Vec<u64>, AllocError>
     requires modulus { (0 < q) × (q < 2 ^ 62) }
     requires room { HasRoom draws.old (4 * n) }
     ensures value { IfOk result (λ row. row.items ≡ uniforms_at draws.old draws.old.place q n) }

@@ -47,8 +47,8 @@ module _ (laws : LowerLaws) (state : PlainState) (files : List File) (C : Carrie
           let secrets = same_ok _ _ (sym (secret_read laws header files secret) ∙ ap (λ (h : Header). first_on secret_of (file_of kinds.Secret h.key) files) read.0 ∙ secret_read laws sealed.header files carried.secret) in
           let ciphers : c ≡ carried.cipher = read.1 (ap (λ (o : Opened (List ℤ)). o.table.ring) secrets) in
           let arrays : decrypted (scheme_in (chained_of secret.table)) secret.secret c ≡ sealed.array =
-            (λ i. decrypted (scheme_in (secrets i).table) (secrets i).value (ciphers i))
-            ∙ decrypts (scheme carried.secret.table) (scheme_is laws carried.secret.table) carried.secret.secret carried.cipher sealed.array carried.secret.is_secret carried.is_cipher carried.stands carried.below in
+          (λ i. decrypted (scheme_in (secrets i).table) (secrets i).value (ciphers i))
+          ∙ decrypts (scheme carried.secret.table) (scheme_is laws carried.secret.table) carried.secret.secret carried.cipher sealed.array carried.secret.is_secret carried.is_cipher carried.stands carried.below in
           (sealed, is, ap (λ x. Prints (slots_text x)) arrays))
 
       by_secret : (value : Option Header) → At kinds.Secret CarriesSecret key files value → On (PrintsSealed cipher) (decrypt_on key cipher files)
