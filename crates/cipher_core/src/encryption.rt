@@ -11,10 +11,15 @@ ghost use Rattle.cipher_core.specs.Shown.{ArePartsUnder, IsTooNoisy, LeavesDraws
 
 use crate::ciphers::Cipher;
 use crate::faults::CipherFault;
+use crate::masks::parts;
 use crate::schemes::Scheme;
+use double_crt::RingTables;
 use draw_stream::Draws;
+use key_gen::{errors, smalls};
 use key_switch::Public;
+use noise_bound::BoundTable;
 use slot_array::SlotArray;
+use slot_factor::Slots;
 use std::alloc::Global;
 
 impl Scheme {
@@ -45,11 +50,27 @@ impl Scheme {
         ensures stands { IfOk result (λ c. (s : List ℤ) → IsSecret self.now.tables.value s → IsPublicOf self.now.tables.value s (key_of public.now)
             → Stands (setting_of self.now) s (cipher_of c) x.now) }
     {
-        let _alloc = alloc;
-        let _rows = public.a.chain_rows();
-        let _place = draws.place();
-        let _x = x.elems.len();
-        let _n = self.tables.n();
-        Err(CipherFault::Memory)
+        let tables: &RingTables = &self.tables;
+        let slots: &Slots = &self.slots;
+        let bounds: &BoundTable = &self.bounds;
+        let _cube = slots.cube();
+        let level = tables.chain_len() - 1;
+        let bound = bounds.fresh();
+        let limit = bounds.limit(level);
+        if bound.at_least(limit) {
+            return Err(CipherFault::TooNoisy { bound, limit });
+        }
+        let n = tables.n();
+        let r = smalls(alloc, n, draws)?;
+        let e0 = errors(alloc, n, draws)?;
+        let e1 = errors(alloc, n, draws)?;
+        let plain = slots.encode(alloc, x)?;
+        let (c0, c1) = parts(alloc, &self.tables, public, &r, &e0, &e1, &plain)?;
+        Ok(Cipher {
+            level,
+            bound,
+            c0,
+            c1,
+        })
     }
 }

@@ -6,6 +6,8 @@ mod decryption;
 mod encryption;
 mod faults;
 mod laws;
+mod masks;
+mod plain_rows;
 mod schemes;
 
 pub use ciphers::Cipher;

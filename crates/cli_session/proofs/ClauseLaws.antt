@@ -4,7 +4,7 @@ use Rattle.std.proofs.lemmas.List.{take_all, take_at}
 use Rattle.shelf_core.specs.Outcomes.{PutsFront}
 use Rattle.slot_array.specs.Arrays.{Array}
 use Rattle.cli_machine.specs.declared.cause.Cause.{Cause}
-use Rattle.cli_machine.specs.declared.cause.Cause.TheVariants.{Words, NoFile, NameTaken, BadTable, BadSlots, BadProgram, BadTemplate, NoRoot, Arity, ShelfFault, SinkFault, Memory}
+use Rattle.cli_machine.specs.declared.cause.Cause.TheVariants.{Words, NoFile, NameTaken, BadTable, BadSlots, BadProgram, BadSeed, BadTemplate, BadKey, BadCipher, NoRoot, Arity, WrongKey, TooNoisy, NoChain, ShelfFault, SinkFault, Memory}
 use Rattle.cli_machine.specs.Clauses.{is_sink_fault, GoesOn, IsOfReading, IsOneFault}
 use Rattle.cli_machine.specs.Machine.{◌>>=◌}
 
@@ -16,9 +16,15 @@ cause_facts (NameTaken file) is = (refl, tt)
 cause_facts (BadTable fault) is = (refl, is)
 cause_facts (BadSlots line) is = (refl, tt)
 cause_facts (BadProgram line) is = (refl, tt)
+cause_facts BadSeed is = (refl, tt)
 cause_facts (BadTemplate key) is = (refl, tt)
+cause_facts (BadKey file place) is = (refl, tt)
+cause_facts (BadCipher file place) is = (refl, tt)
 cause_facts (NoRoot i) is = (refl, tt)
 cause_facts (Arity given named) is = (refl, tt)
+cause_facts (WrongKey want got) is = (refl, tt)
+cause_facts (TooNoisy line bound limit) is = (refl, tt)
+cause_facts (NoChain file) is = (refl, tt)
 cause_facts (ShelfFault faults) is = (refl, is)
 cause_facts (SinkFault faults) is = absurd is
 cause_facts Memory is = (refl, tt)

@@ -1,3 +1,6 @@
 pub mod ClauseLaws
 pub mod Headline
 pub mod Making
+pub mod Quiet
+pub mod Rooms
+pub mod Schemes

@@ -1,7 +1,10 @@
 //! The one call that does what the program does, over any shelf and any sink.
 #![tactic(auto)]
 
+mod ciphers;
 mod clearing;
+mod keys;
+mod opening;
 mod reading;
 mod sessions;
 mod tables;

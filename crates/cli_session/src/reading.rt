@@ -1,5 +1,5 @@
 //! The files of a command: each is loaded and then tested at once.
-ghost use Rattle.std.specs.Prelude.{◌≡◌, false, length, None, All, IfErr, IfOk, IsTrue, OnOk};
+ghost use Rattle.std.specs.Prelude.{◌≡◌, false, length, None, All, IfErr, IfOk, IfSome, IsTrue, OnOk};
 ghost use Rattle.shelf_core.specs.Files.{bytes_of};
 ghost use Rattle.slot_array.specs.Arrays.{IsArray};
 ghost use Rattle.slot_array.specs.SlotsText.{slots_of};
@@ -7,18 +7,22 @@ ghost use Rattle.slot_program.specs.Text.{program_of};
 ghost use Rattle.slot_program.specs.WellFormed.{IsProgram};
 ghost use Rattle.table_file.specs.Accepted.{table_of};
 ghost use Rattle.table_file.specs.Shown.{setting_of};
+ghost use Rattle.cipher_core.specs.Shown.{setting_of as scheme_setting};
+ghost use Rattle.scheme_laws.specs.Scheme.{IsScheme};
+ghost use Rattle.cli_session.specs.Parts.{chained_of};
 ghost use Rattle.cli_machine.specs.Clauses.{faulted, is_shelf_fault, Counts, Gives, IsOfReading};
-ghost use Rattle.cli_machine.specs.Machine.{array_on, arrays_on, free, loaded, or_else, program_on, table_on};
+ghost use Rattle.cli_machine.specs.Machine.{array_on, arrays_on, chained_on, free, loaded, or_else, program_on, seed_on, table_on};
 ghost use Rattle.cli_machine.specs.declared.cause.Cause.TheVariants.{BadProgram, BadSlots, BadTable};
 
+use cipher_core::Scheme;
 use cli_machine::{Cause, Names};
-use line_text::{FileKind, FileName, Name};
+use line_text::{FileKind, FileName, Name, read_seed};
 use shelf_core::{Held, Loaded, Shelf};
 use slot_array::{SlotArray, SlotsFault, read_slots};
 use slot_factor::Slots;
 use slot_program::{Program, ProgramFault};
 use std::alloc::Global;
-use table_file::{Table, TableFault};
+use table_file::{Table, TableFault, law_accepted};
 
 /// The bytes of a file.
 #[tactic(auto, unfolding(cli_machine::specs::Machine::loaded))]
@@ -59,12 +63,15 @@ pub fn free<S: Shelf>(alloc: Global, shelf: &mut S, file: &FileName) -> Result<(
     }
 }
 
-/// The table that a text writes.
+/// The table that a text writes. Where it has moduli, it makes a scheme.
+#[tactic(auto, using(crate::proofs::Schemes::accepted_scheme))]
 pub fn table_in(alloc: Global, text: &[u8]) -> Result<Table, Cause>
     ensures gives { Gives setting_of result (or_else (λ fault. BadTable fault) (table_of text.now)) }
     ensures counts { faulted is_shelf_fault result ≡ false }
     ensures cause { IfErr result IsOfReading }
+    ensures scheme { IfOk result (λ table. IfSome table.scheme (λ s. IsScheme (scheme_setting s))) }
 {
+    law_accepted();
     match table_file::read_table(alloc, text) {
         Ok(table) => Ok(table),
         Err(TableFault::Memory) => Err(Cause::Memory),
@@ -80,6 +87,7 @@ pub fn table<S: Shelf>(alloc: Global, shelf: &mut S, name: &Name) -> Result<Tabl
     ensures gives { IsTrue (S.tells shelf.old) → Gives setting_of result (table_on name.now (S.files shelf.old)) }
     ensures counts { Counts (faulted is_shelf_fault result) (S.faults shelf.old) (S.faults shelf.new) }
     ensures cause { IfErr result IsOfReading }
+    ensures scheme { IfOk result (λ table. IfSome table.scheme (λ s. IsScheme (scheme_setting s))) }
 {
     let file = FileName {
         name: name.copy(alloc)?,
@@ -87,6 +95,45 @@ pub fn table<S: Shelf>(alloc: Global, shelf: &mut S, name: &Name) -> Result<Tabl
     };
     let text = load(alloc, shelf, &file)?;
     table_in(alloc, text.as_slice())
+}
+
+/// Reads the table of this name, which is not to be plain, for its scheme.
+#[tactic(auto, unfolding(cli_machine::specs::Machine::chained_on))]
+pub fn chained<S: Shelf>(alloc: Global, shelf: &mut S, name: &Name) -> Result<Scheme, Cause>
+    ensures tells { S.tells shelf.new ≡ S.tells shelf.old }
+    ensures kept { S.files shelf.new ≡ S.files shelf.old }
+    ensures gives { IsTrue (S.tells shelf.old) → Gives chained_of result (chained_on name.now (S.files shelf.old)) }
+    ensures counts { Counts (faulted is_shelf_fault result) (S.faults shelf.old) (S.faults shelf.new) }
+    ensures cause { IfErr result IsOfReading }
+    ensures scheme { IfOk result (λ s. IsScheme (scheme_setting s)) }
+{
+    let table = table(alloc, shelf, name)?;
+    match table.scheme {
+        Some(scheme) => Ok(scheme),
+        None => Err(Cause::NoChain {
+            file: FileName {
+                name: name.copy(alloc)?,
+                kind: FileKind::Table,
+            },
+        }),
+    }
+}
+
+/// Reads the seed of this name.
+#[tactic(auto, unfolding(cli_machine::specs::Machine::seed_on))]
+pub fn seed<S: Shelf>(alloc: Global, shelf: &mut S, name: &Name) -> Result<[u8; 32], Cause>
+    ensures tells { S.tells shelf.new ≡ S.tells shelf.old }
+    ensures kept { S.files shelf.new ≡ S.files shelf.old }
+    ensures gives { IsTrue (S.tells shelf.old) → Gives (λ seed. seed) result (seed_on name.now (S.files shelf.old)) }
+    ensures counts { Counts (faulted is_shelf_fault result) (S.faults shelf.old) (S.faults shelf.new) }
+    ensures cause { IfErr result IsOfReading }
+{
+    let file = FileName {
+        name: name.copy(alloc)?,
+        kind: FileKind::Seed,
+    };
+    let text = load(alloc, shelf, &file)?;
+    read_seed(text.as_slice()).ok_or(Cause::BadSeed)
 }
 
 /// The program that a text writes.
@@ -144,7 +191,7 @@ fn array_in(alloc: Global, slots: &Slots, text: &[u8]) -> Result<SlotArray, Caus
 
 /// Reads the array of this name.
 #[tactic(auto, unfolding(cli_machine::specs::Machine::array_on))]
-fn array<S: Shelf>(
+pub fn array<S: Shelf>(
     alloc: Global,
     shelf: &mut S,
     slots: &Slots,

@@ -4,10 +4,14 @@ ghost use Rattle.cli_machine.specs.Clauses.{faulted, is_shelf_fault, is_sink_fau
 ghost use Rattle.cli_machine.specs.Effects.{left_by};
 ghost use Rattle.cli_machine.specs.Machine.{command_on, line_on};
 ghost use Rattle.cli_machine.specs.Plain.{ClearPrints};
+ghost use Rattle.plain_machine.specs.CarryingLaws.{Reaches, PrintsReached};
 
+use crate::ciphers::{decrypt, encrypt, noise};
 use crate::clearing::clear;
+use crate::keys::{key_gen, pub_key};
 use crate::tables::{make_table, summarise};
 use cli_machine::{Cause, Command, Effect, Status, command_of};
+use plain_machine::{law_carrying, law_decrypts, law_history};
 use shelf_core::{Put, Saved, Shelf, Sink};
 use std::alloc::Global;
 
@@ -27,6 +31,13 @@ pub fn session<S: Shelf, O: Sink>(
     ensures clear { IsTrue (S.tells shelf.old) → IsTrue (O.tells out.old)
         → ClearPrints (map string_bytes words.now.items) (S.files shelf.old) result (O.bytes out.old) (O.bytes out.new) }
 
+    // From files without keys and ciphertexts, by any lines before this one, done or not, the plain machine goes on: the files
+    // carry its state after this line, and what a `decrypt` that is done has printed is its array.
+    ensures carries { IsTrue (S.tells shelf.old)
+        → Reaches (map string_bytes words.now.items) (outcome_of result) (S.files shelf.old) (S.files shelf.new) }
+    ensures decrypts { IsTrue (S.tells shelf.old) → IsTrue (O.tells out.old)
+        → PrintsReached (map string_bytes words.now.items) result (S.files shelf.old) (O.bytes out.old) (O.bytes out.new) }
+
     ensures shelf_counts { Counts (faulted is_shelf_fault (outcome_of result)) (S.faults shelf.old) (S.faults shelf.new) }
     ensures sink_counts { Counts (faulted is_sink_fault (outcome_of result)) (O.faults out.old) (O.faults out.new) }
 
@@ -34,6 +45,9 @@ pub fn session<S: Shelf, O: Sink>(
     ensures quiet { IsTrue (O.tells out.old) → Adds (outcome_of result) (O.bytes out.old) (O.bytes out.new) }
     ensures own { IsOwnStop result }
 {
+    law_carrying();
+    law_history();
+    law_decrypts();
     one_line(alloc, words.as_slice(), shelf, out)
 }
 
@@ -100,6 +114,22 @@ fn effect_of<S: Shelf>(alloc: Global, shelf: &mut S, command: &Command) -> Resul
         } => clear(alloc, shelf, table, program, inputs),
         Command::Summarise { table } => summarise(alloc, shelf, table),
         Command::MakeTable { source, table } => make_table(alloc, shelf, source, table),
+        Command::KeyGen {
+            table,
+            key,
+            seed,
+            stream,
+        } => key_gen(alloc, shelf, table, key, seed, *stream),
+        Command::PubKey { key, seed, stream } => pub_key(alloc, shelf, key, seed, *stream),
+        Command::Encrypt {
+            key,
+            cipher,
+            seed,
+            stream,
+            input,
+        } => encrypt(alloc, shelf, key, cipher, seed, *stream, input),
+        Command::Decrypt { key, cipher } => decrypt(alloc, shelf, key, cipher),
+        Command::Noise { cipher } => noise(alloc, shelf, cipher),
     }
 }
 

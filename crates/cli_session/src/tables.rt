@@ -2,8 +2,9 @@
 ghost use Rattle.std.specs.Prelude.{◌≡◌, false, IfErr, IfOk, IsTrue, Ok};
 ghost use Rattle.cli_machine.specs.Clauses.{faulted, is_shelf_fault, Counts, Fills, Gives, IsFree, IsOfReading, Meets};
 ghost use Rattle.cli_machine.specs.Effects.{left_by};
-ghost use Rattle.cli_machine.specs.Machine.{make_table_on, or_template, save_table_on, summarise_on, template_on};
+ghost use Rattle.cli_machine.specs.Machine.{make_table_on, or_template, summarise_on, template_on};
 ghost use Rattle.cli_machine.specs.declared.effect.Effect.TheVariants.{Saves};
+ghost use Rattle.cli_session.specs.Parts.{save_table_on};
 ghost use Rattle.table_keys.specs.Documents.{Document, document_of};
 ghost use Rattle.table_maker.specs.Filled.{filled_of};
 
@@ -31,7 +32,7 @@ pub fn summarise<S: Shelf>(alloc: Global, shelf: &mut S, table_name: &Name) -> R
 }
 
 /// `maketable SRC T`.
-#[tactic(auto, unfolding(cli_machine::specs::Machine::make_table_on))]
+#[tactic(auto, unfolding(cli_machine::specs::Machine::make_table_on, crate::specs::Parts::save_table_on))]
 pub fn make_table<S: Shelf>(
     alloc: Global,
     shelf: &mut S,
@@ -58,7 +59,7 @@ pub fn make_table<S: Shelf>(
 }
 
 /// Saves the text of a table, where the table passes the checks of tables.
-#[tactic(auto, unfolding(cli_machine::specs::Machine::save_table_on), using(crate::proofs::Making::table_of_text))]
+#[tactic(auto, unfolding(crate::specs::Parts::save_table_on), using(crate::proofs::Making::table_of_text))]
 fn save_table(alloc: Global, file: FileName, text: Vec<u8>) -> Result<Effect, Cause>
     ensures gives { (table : Document) → document_of text.items ≡ Ok table → Meets result (save_table_on file table) }
     ensures file { IfOk result (λ effect. effect ≡ Saves file text.items) }

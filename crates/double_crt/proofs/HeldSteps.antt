@@ -2,7 +2,7 @@
 use Rattle.std.specs.List.{AllZip}
 use Rattle.std.proofs.Common.{◌≡◌, refl, ℕ, zero, suc, ◌+◌, ◌<◌, ◌≤◌, Bool, List, [], ◌∷◌, ◌++◌, length, map, take, get_or, All, arith, ap, sym, ◌∙◌, subst, Vec, Global, ℤ}
 use Rattle.std.proofs.lemmas.List.{length-map, get_or-map, get_or_default, map-append}
-use Rattle.std.proofs.Math.Seq.{take-suc, take-length}
+use Rattle.std.proofs.Math.Seq.{take-suc}
 use Rattle.bluestein.specs.Plan.{Roots}
 use Rattle.cyclotomic.specs.Cyclotomic.{degree}
 use Rattle.moduli_table.specs.declared.rows.ModRow.{ModRow}
@@ -10,7 +10,7 @@ use Rattle.moduli_table.specs.Chain.{no_row}
 use Rattle.residue_rows.specs.Rows.{AreRows, rows_of, row_of}
 use Rattle.residue_rows.specs.Values.{values_of, interpolated}
 use Rattle.residue_rows.specs.Kept.{RingSetting, rows_kept, moduli_kept, root_of, values_each, interpolated_each}
-use Rattle.double_crt.specs.Held.{moduli_in, entries_in, AreHeld}
+use Rattle.double_crt.specs.Held.{entries_in, AreHeld}
 use Rattle.double_crt.specs.ModuloRows.{ModuloRow, empty_row}
 use Rattle.double_crt.specs.Roots.{roots_of_row}
 

@@ -1,6 +1,6 @@
 -- The roots of an accepted row are those of a plan.
-use Rattle.std.proofs.Common.{◌≡◌, ℕ, ◌+◌, ◌-◌, ◌*◌, ◌/◌, ◌<◌, ◌≤◌, max, arith, div-add-mod'}
-use Rattle.bluestein.specs.Plan.{IsLeastPower, AreRoots}
+use Rattle.std.proofs.Common.{ℕ, ◌-◌, ◌*◌, ◌/◌, ◌<◌, ◌≤◌, max, arith, div-add-mod'}
+use Rattle.bluestein.specs.Plan.{AreRoots}
 use Rattle.moduli_table.specs.declared.rows.ModRow.{ModRow}
 use Rattle.moduli_table.specs.Checks.{two_power}
 use Rattle.moduli_table.specs.Accepted.{IsAcceptedRow}
@@ -26,8 +26,8 @@ plan_roots m r low high A = record {
   is_root = held_root m r low A;
   size = two_power m;
   is_size =
-    let next = two_power_next m (omega arith) in
-    record { exponent = next.0.0; is_power = next.0.1; enough = next.1; least = least (2 * m - 1) (two_power m) (omega arith) next.2 };
+      let next = two_power_next m (omega arith) in
+      record { exponent = next.0.0; is_power = next.0.1; enough = next.1; least = least (2 * m - 1) (two_power m) (omega arith) next.2 };
   psi_half = A.two_root;
 }
 

@@ -1,5 +1,5 @@
 -- What is done to the values at the units is done to the polynomial.
-use Rattle.std.proofs.Common.{◌≡◌, refl, true, false, IsTrue, if◌then◌else◌, le_trans, ℕ, zero, suc, ◌+◌, ◌-◌, ◌*◌, ◌%◌, ◌<◌, ◌≤◌, Bool, List, [], ◌∷◌, ◌++◌, length, map, take, drop, get_or, All, arith, ap, ap₂, sym, ◌∙◌, subst, subst₂, ℤ}
+use Rattle.std.proofs.Common.{◌≡◌, refl, true, false, IsTrue, if◌then◌else◌, le_trans, ℕ, zero, suc, ◌+◌, ◌-◌, ◌*◌, ◌%◌, ◌<◌, ◌≤◌, Bool, List, [], ◌∷◌, ◌++◌, length, map, take, drop, get_or, arith, ap, ap₂, sym, ◌∙◌, subst, subst₂, ℤ}
 use Rattle.std.proofs.lemmas.List.{map-append, take-map, drop-map}
 use Rattle.algebra.specs.Divisor.{UnitModulo, units}
 use Rattle.algebra.specs.Whole.{residue}

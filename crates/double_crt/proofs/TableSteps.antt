@@ -1,11 +1,11 @@
 -- The lines of the moduli that are kept, and the moduli of the chain and the special ones apart.
-use Rattle.std.proofs.Common.{◌≡◌, refl, ℕ, ◌+◌, ◌-◌, ◌<◌, ◌≤◌, Bool, true, false, if◌then◌else◌, List, [], ◌++◌, length, map, take, drop, get_or, arith, ap, ap₂, sym, ◌∙◌, subst}
-use Rattle.std.proofs.lemmas.List.{length-map, length-take, length-drop, length-append, get_or-map, get_or-take, get_or_append_left, get_or-append_right, map-id}
+use Rattle.std.proofs.Common.{◌≡◌, refl, ℕ, ◌+◌, ◌-◌, ◌<◌, ◌≤◌, Bool, true, false, if◌then◌else◌, List, [], ◌++◌, length, map, take, drop, get_or, arith, ap, ap₂, sym, ◌∙◌}
+use Rattle.std.proofs.lemmas.List.{length-take, length-drop, length-append, get_or-map, get_or-take, get_or_append_left, get_or-append_right, map-id}
 use Rattle.std.proofs.Math.Seq.{take-append_seam, drop-append_seam, take-length}
 use Rattle.bluestein.specs.Plan.{Roots}
 use Rattle.mixed_radix.specs.Basis.{Basis}
 use Rattle.moduli_table.specs.declared.rows.ModRow.{ModRow}
-use Rattle.moduli_table.specs.Chain.{Chain, IsShaped, no_row}
+use Rattle.moduli_table.specs.Chain.{IsShaped, no_row}
 use Rattle.residue_rows.specs.Kept.{RingSetting}
 use Rattle.double_crt.specs.Bases.{basis_from, chain_basis, special_basis}
 use Rattle.double_crt.specs.Roots.{roots_of_row}

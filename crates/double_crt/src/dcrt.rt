@@ -114,7 +114,13 @@ impl Dcrt {
         ensures value { IfOk result (λ rows. map (λ row. row.items) rows.items ≡ self.now.rows) }
         ensures kept { IsKept self.now }
     {
-        coefficients(alloc, &self.tables, self.chain_rows, self.special, &self.rows)
+        coefficients(
+            alloc,
+            &self.tables,
+            self.chain_rows,
+            self.special,
+            &self.rows,
+        )
     }
 
     /// The same polynomial modulo fewer moduli: the first ones of the chain, with the special ones or without them. The one

@@ -51,7 +51,12 @@ pub(crate) fn lines_of(alloc: Global, moduli: &Moduli) -> Result<Vec<Line>, Allo
 }
 
 /// Some moduli of a table, as many as given, from the first given.
-fn some_moduli(alloc: Global, moduli: &Moduli, first: u32, many: u32) -> Result<Vec<u64>, AllocError>
+fn some_moduli(
+    alloc: Global,
+    moduli: &Moduli,
+    first: u32,
+    many: u32,
+) -> Result<Vec<u64>, AllocError>
     requires { first + many ≤ count moduli.now }
     ensures { IfOk result (λ list. list.items ≡ map (λ r. r.q) (take many (drop first (moduli.now.chain ++ moduli.now.special)))) }
 {
@@ -64,7 +69,12 @@ fn some_moduli(alloc: Global, moduli: &Moduli, first: u32, many: u32) -> Result<
 }
 
 /// The inverses modulo a modulus of those before it from the first on.
-fn inverses_before(alloc: Global, moduli: &Moduli, first: u32, many: u32) -> Result<Vec<u64>, AllocError>
+fn inverses_before(
+    alloc: Global,
+    moduli: &Moduli,
+    first: u32,
+    many: u32,
+) -> Result<Vec<u64>, AllocError>
     requires { first + many < count moduli.now }
     ensures { IfOk result (λ list. list.items ≡ drop first (get_or moduli.now.inverse (first + many) [])) }
 {
@@ -95,7 +105,12 @@ fn some_inverses(
 }
 
 /// The radix of some moduli of a table, as many as given, from the first given.
-pub(crate) fn radix_of(alloc: Global, moduli: &Moduli, first: u32, many: u32) -> Result<Radix, AllocError>
+pub(crate) fn radix_of(
+    alloc: Global,
+    moduli: &Moduli,
+    first: u32,
+    many: u32,
+) -> Result<Radix, AllocError>
     requires { first + many ≤ count moduli.now }
     ensures value { IfOk result (λ radix. radix ≡ basis_from moduli.now first many) }
     ensures basis { IfOk result IsBasis }

@@ -209,7 +209,11 @@ impl RingTables {
         ensures value { result ≡ length (rows_kept self.now chain_rows special) }
         ensures setting { IsSetting self.now }
     {
-        if special { chain_rows + self.moduli.special_len() } else { chain_rows }
+        if special {
+            chain_rows + self.moduli.special_len()
+        } else {
+            chain_rows
+        }
     }
 
     /// The line of one of the moduli that are kept.
@@ -218,7 +222,11 @@ impl RingTables {
         requires i_in { i < length (rows_kept self.now chain_rows special) }
         ensures { result.now ≡ roots_of_row self.now.moduli.m (get_or (rows_kept self.now chain_rows special) i no_row) }
     {
-        let place = if i < chain_rows { i } else { i - chain_rows + self.moduli.chain_len() };
+        let place = if i < chain_rows {
+            i
+        } else {
+            i - chain_rows + self.moduli.chain_len()
+        };
         &self.lines[place as usize]
     }
 }

@@ -1,7 +1,7 @@
 //! The header of a file: `HBGV`, the kind, the format, and the names of the table and of the key.
 ghost use Rattle.std.specs.Prelude.{◌≡◌, ◌≤◌, ◌++◌, length, IfOk, OnOk};
-ghost use Rattle.he_files.specs.Header.{kind_byte, name, header_of, header_bytes};
 ghost use Rattle.he_files.specs.Header as form;
+ghost use Rattle.he_files.specs.Header.{header_of, header_bytes};
 ghost use Rattle.he_files.specs.Reads.{Reads};
 
 use crate::faults::ReadFault;
@@ -27,7 +27,7 @@ const FORMAT: u8 = 1;
 /// The byte of a kind. The kinds of texts have none.
 #[tactic(auto, unfolding(crate::specs::Header::kind_byte))]
 fn kind_byte(kind: FileKind) -> Option<u8>
-    ensures { result ≡ kind_byte kind }
+    ensures { result ≡ form.kind_byte kind }
 {
     match kind {
         FileKind::Secret => Some(1),
@@ -60,7 +60,7 @@ fn after_kind(bytes: &[u8], at: usize, kind: FileKind) -> Result<usize, ReadFaul
 #[tactic(auto, unfolding(crate::specs::Header::name_at, crate::specs::Form::field_at, crate::specs::Form::allowed_byte))]
 fn name_at(alloc: Global, bytes: &[u8], at: usize) -> Result<(Name, usize), ReadFault>
     requires { at ≤ length bytes.now }
-    ensures value { Reads (λ found. found) result (name.read bytes.now at) }
+    ensures value { Reads (λ found. found) result (form.name.read bytes.now at) }
     ensures inside { IfOk result (λ found. found.1 ≤ length bytes.now) }
 {
     let len = bytes_at(bytes, at, 1)?[0];
@@ -75,7 +75,11 @@ fn name_at(alloc: Global, bytes: &[u8], at: usize) -> Result<(Name, usize), Read
     Ok((name, at + word.len()))
 }
 
-/// The header of a file of this kind, and the offset after it.
+/// The header of a file of this kind, and how long it is: the offset of the body.
+///
+/// The header is `HBGV`, the byte of the kind, a byte 1, and the names of the table and of the key, each behind a byte for its
+/// length. `Bad` names the offset of the first of these fields that is cut short or not allowed; a kind of texts has no
+/// byte, so none is allowed for it.
 #[tactic(auto, unfolding(crate::specs::Header::header_of))]
 pub fn read_header(
     alloc: Global,

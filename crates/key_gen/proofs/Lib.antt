@@ -1,0 +1,3 @@
+pub mod DrawSteps
+pub mod RowSteps
+pub mod KeySteps

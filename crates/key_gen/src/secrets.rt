@@ -22,8 +22,7 @@ pub fn secret(
     ensures is_secret { IfOk result (λ s. IsSecret tables.now.value s.coeffs.items) }
     ensures moved { OnOk result (draws.new ≡ after draws.old (sparse_words tables.now.value.weight)) }
 {
-    let _alloc = alloc;
-    let _n = tables.n();
-    let _place = draws.place();
-    Err(AllocError)
+    let ring: &RingTables = tables;
+    let coeffs = draws.sparse(alloc, ring.n(), ring.weight())?;
+    Ok(Secret { coeffs })
 }

@@ -1,12 +1,11 @@
-use Rattle.std.proofs.Common.{◌≡◌, ◌<◌, ℕ, Bool, List, [], get_or, length, map, arith, ap, ap₂, sym, ◌∙◌, Vec, Global}
+use Rattle.std.proofs.Common.{◌≡◌, ◌<◌, ℕ, Bool, [], get_or, length, map, arith, ap, sym, ◌∙◌, Vec, Global}
 use Rattle.bluestein.specs.Plan.{Roots}
 use Rattle.cyclotomic.specs.Cyclotomic.{degree}
 use Rattle.moduli_table.specs.Chain.{no_row}
 use Rattle.residue_rows.specs.Values.{interpolated}
 use Rattle.residue_rows.specs.Kept.{RingSetting, rows_kept, root_of, interpolated_each}
 use Rattle.double_crt.specs.Held.{entries_in}
-use Rattle.double_crt.specs.ModuloRows.{ModuloRow}
-use Rattle.double_crt.specs.Roots.{roots_of_row, point_of}
+use Rattle.double_crt.specs.Roots.{point_of}
 use Rattle.double_crt.proofs.ListSteps.{written_long}
 use Rattle.double_crt.proofs.HeldSteps.{pushed, all_taken, row_modulus, row_long, entry_is, rows_long, entries_long, interpolated_at, interpolated_long}
 use Rattle.double_crt.proofs.fills.coefficients.Goals as goal

@@ -1,4 +1,4 @@
-use Rattle.std.proofs.Common.{◌≡◌, ◌<◌, ℕ, Bool, List, [], get_or, length, map, All, arith, ap, sym, ◌∙◌, subst, Vec, Global}
+use Rattle.std.proofs.Common.{◌<◌, ℕ, Bool, List, [], length, map, All, arith, ap, sym, ◌∙◌, subst, Vec, Global}
 use Rattle.std.proofs.lemmas.List.{length-map}
 use Rattle.mod_ring.specs.Zq.{modulus_of}
 use Rattle.residue_rows.specs.Kept.{RingSetting, rows_kept, moduli_kept}

@@ -1,5 +1,4 @@
-use Rattle.std.proofs.Common.{◌≡◌, ◌<◌, ℕ, Bool, [], get_or, length, map, arith, ap, sym, ◌∙◌}
-use Rattle.algebra.specs.Whole.{residue}
+use Rattle.std.proofs.Common.{◌≡◌, ◌<◌, ℕ, Bool, [], get_or, length, arith, ap, ◌∙◌}
 use Rattle.mod_ring.specs.Zq.{modulus_of}
 use Rattle.residue_rows.specs.Rows.{rows_of}
 use Rattle.residue_rows.specs.Kept.{RingSetting, rows_kept, moduli_kept}

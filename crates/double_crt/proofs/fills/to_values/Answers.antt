@@ -1,12 +1,12 @@
-use Rattle.std.proofs.Common.{◌≡◌, ◌<◌, ℕ, Bool, List, get_or, length, arith, ap, ap₂, sym, ◌∙◌}
+use Rattle.std.proofs.Common.{◌≡◌, ℕ, List, get_or, length, arith, ap, ap₂, sym, ◌∙◌}
 use Rattle.std.proofs.lemmas.List.{get_or_default}
 use Rattle.bluestein.specs.Plan.{Roots}
 use Rattle.cyclotomic.specs.Cyclotomic.{degree}
 use Rattle.moduli_table.specs.Chain.{no_row}
 use Rattle.residue_rows.specs.Values.{values_of}
-use Rattle.residue_rows.specs.Kept.{RingSetting, rows_kept, root_of}
+use Rattle.residue_rows.specs.Kept.{rows_kept, root_of}
 use Rattle.double_crt.specs.ModuloRows.{ModuloRow, empty_row}
-use Rattle.double_crt.specs.Roots.{roots_of_row, point_of}
+use Rattle.double_crt.specs.Roots.{point_of}
 use Rattle.double_crt.proofs.ListSteps.{written_long, stepped_more, stepped_rest}
 use Rattle.double_crt.proofs.HeldSteps.{modulus_or, long_or}
 use Rattle.double_crt.proofs.fills.to_values.Goals as goal

@@ -1,4 +1,4 @@
-use Rattle.std.proofs.Common.{◌≡◌, arith, length, Fits, ap, sym, ◌∙◌, subst}
+use Rattle.std.proofs.Common.{◌≡◌, arith, length, ap, ◌∙◌}
 use Rattle.algebra.specs.Divisor.{units}
 use Rattle.double_crt.proofs.UnitSteps.{unit_in, units_few, places_more}
 use Rattle.double_crt.proofs.makes.fill_places.Goals as goal

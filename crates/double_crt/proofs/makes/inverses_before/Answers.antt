@@ -1,4 +1,4 @@
-use Rattle.std.proofs.Common.{◌≡◌, ◌+◌, arith, get_or, length, rules}
+use Rattle.std.proofs.Common.{◌+◌, arith, rules}
 use Rattle.bluestein.proofs.Ranges.{entries_more}
 use Rattle.moduli_table.specs.Chain.{modulus_at}
 use Rattle.moduli_table.specs.Accepted.{IsInverse}

@@ -1,4 +1,4 @@
-use Rattle.std.proofs.Common.{◌≡◌, List, ℕ, ap, ap₂, sym, ◌∙◌, subst, map, Vec, Global}
+use Rattle.std.proofs.Common.{List, ℕ, ap, ap₂, sym, ◌∙◌, subst, map, Vec, Global}
 use Rattle.mixed_radix.specs.Basis.{Basis, IsBasis}
 use Rattle.double_crt.proofs.BasisSteps.{basis_is}
 use Rattle.double_crt.proofs.makes.radix_of.Goals as goal

@@ -1,4 +1,4 @@
-use Rattle.std.proofs.Common.{◌≡◌, map, take, drop, List, ℕ}
+use Rattle.std.proofs.Common.{◌≡◌, map, take, drop}
 use Rattle.double_crt.proofs.makes.some_inverses.Given as goal
 
 abbrev pub invariant-loop-i : goal.invariant-loop-i

@@ -1,4 +1,4 @@
-use Rattle.std.proofs.Common.{◌≡◌, ℕ, ◌-◌, ◌%◌, ◌<◌, ◌≤◌, All, length, get_or}
+use Rattle.std.proofs.Common.{◌≡◌, ℕ, ◌-◌, ◌%◌, ◌<◌, ◌≤◌, All, get_or}
 use Rattle.mod_ring.specs.Zq.{modulus_of}
 use Rattle.double_crt.proofs.words.neg_words.Given as goal
 

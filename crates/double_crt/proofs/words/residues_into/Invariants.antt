@@ -1,4 +1,4 @@
-use Rattle.std.proofs.Common.{◌≡◌, ℕ, ◌<◌, length, get_or, pos}
+use Rattle.std.proofs.Common.{◌≡◌, ℕ, ◌<◌, get_or, pos}
 use Rattle.algebra.specs.Whole.{residue}
 use Rattle.mod_ring.specs.Zq.{modulus_of}
 use Rattle.double_crt.proofs.words.residues_into.Given as goal

@@ -1,4 +1,4 @@
-use Rattle.std.proofs.Common.{List, ℕ, map, arith, Vec, Global}
+use Rattle.std.proofs.Common.{ℕ, map, arith, Vec, Global}
 use Rattle.double_crt.proofs.Operations.{taken_becomes}
 use Rattle.double_crt.proofs.dcrt.Dcrt.from_residues.Goals as goal
 

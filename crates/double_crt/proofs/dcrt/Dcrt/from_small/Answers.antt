@@ -2,7 +2,7 @@ use Rattle.std.proofs.Common.{◌≡◌, ◌≤◌, length, arith, ap, sym, ◌�
 use Rattle.cyclotomic.specs.Cyclotomic.{degree}
 use Rattle.residue_rows.specs.Rows.{AreRows, rows_of}
 use Rattle.residue_rows.specs.Kept.{RingSetting, IsSetting, moduli_kept}
-use Rattle.double_crt.specs.Held.{AreHeld, moduli_in, entries_in}
+use Rattle.double_crt.specs.Held.{moduli_in, entries_in}
 use Rattle.double_crt.proofs.Operations.{small_held, taken_becomes}
 use Rattle.double_crt.proofs.dcrt.Dcrt.from_small.Goals as goal
 

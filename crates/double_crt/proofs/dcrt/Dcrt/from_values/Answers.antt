@@ -1,7 +1,4 @@
-use Rattle.std.proofs.Common.{◌≡◌, ◌≤◌, ℕ, length, map, ap, sym, ◌∙◌, subst, Vec, Global}
-use Rattle.residue_rows.specs.Rows.{AreRows}
-use Rattle.residue_rows.specs.Kept.{RingSetting, IsSetting, moduli_kept}
-use Rattle.double_crt.specs.Held.{IsHeld}
+use Rattle.std.proofs.Common.{ℕ, map, Vec, Global}
 use Rattle.double_crt.proofs.Operations.{given_held, given_values, held_kept}
 use Rattle.double_crt.proofs.dcrt.Dcrt.from_values.Goals as goal
 

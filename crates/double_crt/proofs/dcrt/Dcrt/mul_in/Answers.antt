@@ -1,4 +1,4 @@
-use Rattle.std.proofs.Common.{◌≡◌, ◌<◌, ℕ, List, get_or, length, arith, sym, subst₂}
+use Rattle.std.proofs.Common.{◌<◌, ℕ, List, get_or, length, arith, sym, subst₂}
 use Rattle.double_crt.specs.ModuloRows.{ModuloRow, empty_row, IsAlike}
 use Rattle.double_crt.proofs.Operations.{product_becomes, alike_at}
 use Rattle.double_crt.proofs.dcrt.Dcrt.mul_in.Goals as goal

@@ -1,6 +1,5 @@
-use Rattle.std.proofs.Common.{◌≡◌, ◌<◌, ◌≤◌, ℕ, List, get_or, length, arith, ap, sym, ◌∙◌, subst, subst₂}
+use Rattle.std.proofs.Common.{◌≡◌, ◌<◌, ℕ, List, get_or, length, arith, ap, sym, ◌∙◌, subst, subst₂}
 use Rattle.algebra.specs.Divisor.{UnitModulo, units}
-use Rattle.cyclotomic.specs.Cyclotomic.{degree}
 use Rattle.residue_rows.specs.Kept.{Residues, RingSetting}
 use Rattle.double_crt.specs.ModuloRows.{ModuloRow, empty_row, IsAlike}
 use Rattle.double_crt.specs.Places.{ArePlaces}

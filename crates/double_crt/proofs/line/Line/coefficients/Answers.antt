@@ -1,4 +1,4 @@
-use Rattle.std.proofs.Common.{◌≡◌, ◌<◌, ◌-◌, ℕ, List, ◌++◌, All, length, map, take, replicate, arith, ap, sym, ◌∙◌, subst}
+use Rattle.std.proofs.Common.{◌≡◌, ◌-◌, ℕ, List, ◌++◌, length, map, take, replicate, arith, ap, sym, ◌∙◌, subst}
 use Rattle.algebra.specs.Ring.{residues}
 use Rattle.algebra.specs.Poly.{remainder}
 use Rattle.algebra.specs.Whole.{residue}

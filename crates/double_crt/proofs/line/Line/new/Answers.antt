@@ -1,4 +1,4 @@
-use Rattle.std.proofs.Common.{◌≡◌, arith, ap, sym, ◌∙◌, subst}
+use Rattle.std.proofs.Common.{arith, ap, sym, ◌∙◌, subst}
 use Rattle.bluestein.specs.Plan.{Roots}
 use Rattle.residue_rows.specs.ValueLaws.{IsAcceptedRoot}
 use Rattle.double_crt.specs.Roots.{point_of}

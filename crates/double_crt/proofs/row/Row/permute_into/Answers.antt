@@ -1,5 +1,4 @@
-use Rattle.std.proofs.Common.{◌≡◌, ◌<◌, ◌*◌, ◌%◌, ℕ, List, All, length, get_or, arith, ap, sym, ◌∙◌, subst}
-use Rattle.algebra.specs.Divisor.{units}
+use Rattle.std.proofs.Common.{◌≡◌, ◌<◌, ◌*◌, ◌%◌, All, length, get_or, arith, ap, sym, ◌∙◌, subst}
 use Rattle.mod_ring.specs.Zq.{modulus_of}
 use Rattle.double_crt.specs.ModuloRows.{ModuloRow}
 use Rattle.double_crt.proofs.ListSteps.{written}

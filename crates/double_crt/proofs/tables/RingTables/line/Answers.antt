@@ -1,6 +1,5 @@
-use Rattle.std.proofs.Common.{◌≡◌, ◌+◌, ◌-◌, ◌<◌, ◌≤◌, ◌++◌, ℕ, List, length, get_or, arith, ap, sym, ◌∙◌, subst}
+use Rattle.std.proofs.Common.{◌≡◌, ◌+◌, ◌-◌, ◌<◌, ◌≤◌, ◌++◌, List, length, get_or, arith, ap, sym, ◌∙◌, subst}
 use Rattle.std.proofs.lemmas.List.{length-append}
-use Rattle.bluestein.specs.Plan.{Roots}
 use Rattle.moduli_table.specs.declared.rows.ModRow.{ModRow}
 use Rattle.moduli_table.specs.Chain.{no_row}
 use Rattle.residue_rows.specs.Kept.{RingSetting, rows_kept}

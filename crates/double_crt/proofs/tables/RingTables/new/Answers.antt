@@ -1,12 +1,9 @@
-use Rattle.std.proofs.Common.{◌≡◌, ◌+◌, ◌-◌, ◌<◌, ◌≤◌, ◌++◌, ℕ, List, length, map, arith, ap, ap₂, All, sum, sym, ◌∙◌, subst}
+use Rattle.std.proofs.Common.{◌<◌, ◌≤◌, ap, ap₂, All, sum, sym, ◌∙◌, subst}
 use Rattle.algebra.specs.Divisor.{units}
-use Rattle.bluestein.specs.Plan.{Roots}
 use Rattle.cyclotomic.specs.Cyclotomic.{degree}
-use Rattle.mixed_radix.specs.Basis.{IsBasis}
 use Rattle.residue_rows.specs.Kept.{RingSetting, IsSetting}
 use Rattle.double_crt.specs.Bases.{basis_from}
 use Rattle.double_crt.specs.Places.{ArePlaces}
-use Rattle.double_crt.specs.Roots.{roots_of_row}
 use Rattle.double_crt.proofs.TableSteps.{chain_basis_is, special_basis_is}
 use Rattle.double_crt.proofs.tables.RingTables.new.Goals as goal
 

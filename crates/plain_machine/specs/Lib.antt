@@ -1,0 +1,4 @@
+pub mod PlainState
+pub mod Carrying
+pub mod CarryingLaws
+pub mod Lower

@@ -1,0 +1,44 @@
+//! Laws of the plain machine.
+ghost use Rattle.plain_machine.specs.CarryingLaws.{EmptyLaw, CarryingLaw, HistoryLaw, DecryptsLaw};
+ghost use Rattle.plain_machine.specs.Lower.{LowerLaws};
+
+use he_files::{law_cipher, law_header, law_public, law_secret};
+use table_file::law_accepted;
+
+/// Files without keys and ciphertexts carry the state that has nothing.
+pub fn law_empty()
+    ensures { EmptyLaw }
+{}
+
+/// A line leaves files that carry the state that it makes of the one before: the plain machine's where it is done, and the same
+/// where it stops.
+pub fn law_carrying()
+    ensures { CarryingLaw }
+{
+    lower();
+}
+
+/// From files without keys and ciphertexts, any lines lead to files that carry the state that the plain machine reaches.
+pub fn law_history()
+    ensures { HistoryLaw }
+{
+    lower();
+}
+
+/// Where the files carry a state, a `decrypt` that is done prints the array that the state has for its ciphertext.
+pub fn law_decrypts()
+    ensures { DecryptsLaw }
+{
+    lower();
+}
+
+/// What is known of the files, and of the tables that are accepted.
+fn lower()
+    ensures { LowerLaws }
+{
+    law_header();
+    law_secret();
+    law_public();
+    law_cipher();
+    law_accepted();
+}
