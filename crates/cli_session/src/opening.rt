@@ -56,7 +56,7 @@ fn bad_file(alloc: Global, file: &FileName, place: u64) -> Result<Cause, AllocEr
 
 /// Reads a key file or ciphertext file as far as its header.
 #[tactic(auto, unfolding(cli_machine::specs::Machine::headed_on))]
-fn headed<S: Shelf>(alloc: Global, shelf: &mut S, file: &FileName) -> Result<Headed, Cause>
+fn with_header<S: Shelf>(alloc: Global, shelf: &mut S, file: &FileName) -> Result<Headed, Cause>
     ensures tells { S.tells shelf.new ≡ S.tells shelf.old }
     ensures kept { S.files shelf.new ≡ S.files shelf.old }
     ensures gives { IsTrue (S.tells shelf.old) → Gives headed_of result (headed_on file.now (S.files shelf.old)) }
@@ -155,7 +155,7 @@ pub fn first_secret<S: Shelf>(
         name: name.copy(alloc)?,
         kind: FileKind::Secret,
     };
-    let found = headed(alloc, shelf, &file)?;
+    let found = with_header(alloc, shelf, &file)?;
     let scheme = chained(alloc, shelf, &found.header.table)?;
     let value = secret_in(alloc, &scheme, &file, &found)?;
     Ok(Opened {
@@ -185,7 +185,7 @@ pub fn first_public<S: Shelf>(
         name: name.copy(alloc)?,
         kind: FileKind::Public,
     };
-    let found = headed(alloc, shelf, &file)?;
+    let found = with_header(alloc, shelf, &file)?;
     let scheme = chained(alloc, shelf, &found.header.table)?;
     let value = public_in(alloc, &scheme, &file, &found)?;
     Ok(Opened {
@@ -215,7 +215,7 @@ pub fn first_cipher<S: Shelf>(
         name: name.copy(alloc)?,
         kind: FileKind::Cipher,
     };
-    let found = headed(alloc, shelf, &file)?;
+    let found = with_header(alloc, shelf, &file)?;
     let scheme = chained(alloc, shelf, &found.header.table)?;
     let value = cipher_in(alloc, &scheme, &file, &found)?;
     Ok(Opened {
@@ -246,7 +246,7 @@ pub fn later_cipher<S: Shelf>(
         name: name.copy(alloc)?,
         kind: FileKind::Cipher,
     };
-    let found = headed(alloc, shelf, &file)?;
+    let found = with_header(alloc, shelf, &file)?;
     match_names(alloc, first, &found.header)?;
     cipher_in(alloc, scheme, &file, &found)
 }
