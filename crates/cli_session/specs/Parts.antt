@@ -8,8 +8,8 @@ use Rattle.cli_machine.specs.declared.cause.Cause.{Cause}
 use Rattle.cli_machine.specs.declared.cause.Cause.TheVariants.{BadTable}
 use Rattle.cli_machine.specs.Effects.{Wanted, SavesTable}
 use Rattle.cli_machine.specs.Machine.{◌>>=◌, or_else, Chained, Headed, Opened}
-use Rattle.cli_session.specs.declared.opening.Headed.{Headed as HeadedFile}
-use Rattle.cli_session.specs.declared.opening.Opened.{Opened as OpenedFile}
+use Rattle.cli_session.specs.declared.found.Headed.{Headed as HeadedFile}
+use Rattle.cli_session.specs.declared.found.Opened.{Opened as OpenedFile}
 
 -- a text of the table is saved, where the table passes the checks of tables
 unfoldable pub save_table_on : FileName → Document → Result Wanted Cause

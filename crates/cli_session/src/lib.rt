@@ -3,6 +3,7 @@
 
 mod ciphers;
 mod clearing;
+mod found;
 mod keys;
 mod opening;
 mod reading;

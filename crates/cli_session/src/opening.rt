@@ -12,6 +12,7 @@ ghost use Rattle.cli_machine.specs.Clauses.{faulted, is_shelf_fault, Counts, Giv
 ghost use Rattle.cli_machine.specs.Machine.{bad_file, file_of, first_on, headed_on, later_on, or_else, same_names};
 ghost use Rattle.cli_session.specs.Parts.{headed_of, opened_of};
 
+use crate::found::{Headed, Opened};
 use crate::reading::{chained, load};
 use cipher_core::{Cipher, Scheme};
 use cli_machine::Cause;
@@ -20,26 +21,6 @@ use key_switch::{Public, Secret};
 use line_text::{FileKind, FileName, Name};
 use shelf_core::Shelf;
 use std::alloc::{AllocError, Global};
-
-/// The bytes of a key file or ciphertext file, its header, and the offset after this.
-#[derive(Drop)]
-pub struct Headed {
-    bytes: Vec<u8>,
-    header: Header,
-    from: usize,
-    ghost inside: { from ≤ length bytes.items },
-}
-
-/// What the first key file or ciphertext file of a line holds.
-#[derive(Drop)]
-pub struct Opened<A> {
-    /// The names that it carries.
-    pub header: Header,
-    /// The scheme of the table that it names.
-    pub scheme: Scheme,
-    /// What stands behind the header.
-    pub value: A,
-}
 
 /// The cause of a fault at this offset of a key file or ciphertext file.
 fn bad_file(alloc: Global, file: &FileName, place: u64) -> Result<Cause, AllocError>
