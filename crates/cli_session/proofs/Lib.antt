@@ -1,3 +1,4 @@
+pub mod BoundTexts
 pub mod ClauseLaws
 pub mod Headline
 pub mod Making

@@ -1,5 +1,5 @@
 -- Whether a fresh ciphertext is quiet, from its bound and its limit.
-use Rattle.std.proofs.Common.{◌≡◌, ℕ, ◌<◌, ◌≤◌, Bool, true, false, cond, Result, Ok, Err, ◌⊎◌, inl, inr, refl, sym, arith}
+use Rattle.std.proofs.Common.{◌≡◌, ℕ, ◌<◌, ◌≤◌, Bool, true, false, cond, Result, Ok, Err, ◌⊎◌, inl, inr, refl, sym, ap, ◌∙◌, arith}
 use Rattle.std.specs.Prelude.{nat_le}
 use Rattle.std.proofs.lemmas.Bool.Decides.{leb_tells}
 use Rattle.noise_bound.specs.declared.rounding.Bound.{Bound}
@@ -35,14 +35,14 @@ pub passes : (ring : RingSetting) → fresh (sizes_of ring) < limit (sizes_of ri
 unfolding quiet
 passes ring below = answer-below (fresh (sizes_of ring)) (limit (sizes_of ring) (top ring)) _ below
 
+abbrev noisy : Bound → Bound → Result Unit Cause
+noisy bound most = Err (TooNoisy 0 bound most)
+
 -- a bound that is not
 pub refuses : (ring : RingSetting) (bound most : Bound) → value bound ≡ fresh (sizes_of ring) → value most ≡ limit (sizes_of ring) (top ring)
     → limit (sizes_of ring) (top ring) ≤ fresh (sizes_of ring) → quiet ring ≡ Err (TooNoisy 0 bound most)
 unfolding quiet
 refuses ring bound most is_fresh is_limit above =
-    let a = bound_of-value bound in
-    let b = bound_of-value most in
-    let same : bound_of (fresh (sizes_of ring)) ≡ bound = rw is_fresh at a in
-    let same_most : bound_of (limit (sizes_of ring) (top ring)) ≡ most = rw is_limit at b in
-    let all = answer-above (fresh (sizes_of ring)) (limit (sizes_of ring) (top ring)) (TooNoisy 0 (bound_of (fresh (sizes_of ring))) (bound_of (limit (sizes_of ring) (top ring)))) above in
-    rw (same, same_most) at all
+    answer-above (fresh (sizes_of ring)) (limit (sizes_of ring) (top ring)) (TooNoisy 0 (bound_of (fresh (sizes_of ring))) (bound_of (limit (sizes_of ring) (top ring)))) above
+    ∙ ap (λ b. noisy b (bound_of (limit (sizes_of ring) (top ring)))) (ap bound_of (sym is_fresh) ∙ bound_of-value bound)
+    ∙ ap (λ b. noisy bound b) (ap bound_of (sym is_limit) ∙ bound_of-value most)

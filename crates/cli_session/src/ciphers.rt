@@ -145,7 +145,7 @@ fn noise_line(alloc: Global, scheme: &Scheme, cipher: &Cipher) -> Result<Vec<u8>
 }
 
 /// Appends a word and a bound.
-#[tactic(auto, unfolding(table_file::specs::Summary::bound_text))]
+#[tactic(auto, using(crate::proofs::BoundTexts::put_two))]
 fn put_bounded(text: &mut Vec<u8>, word: &[u8], bound: Bound) -> Result<(), AllocError>
     ensures { OnOk result (text.new.items ≡ text.old.items ++ bounded word.now (value bound)) }
 {

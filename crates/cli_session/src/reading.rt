@@ -108,7 +108,8 @@ pub fn chained<S: Shelf>(alloc: Global, shelf: &mut S, name: &Name) -> Result<Sc
     ensures scheme { IfOk result (λ s. IsScheme (scheme_setting s)) }
 {
     let table = table(alloc, shelf, name)?;
-    match table.scheme {
+    let scheme = table.scheme;
+    match scheme {
         Some(scheme) => Ok(scheme),
         None => Err(Cause::NoChain {
             file: FileName {
