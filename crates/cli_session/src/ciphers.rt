@@ -12,7 +12,9 @@ ghost use Rattle.table_file.specs.Summary.{bounded};
 ghost use Rattle.cli_machine.specs.Clauses.{faulted, is_excused, is_shelf_fault, Counts, Gives, IsFree, IsOfReading};
 ghost use Rattle.cli_machine.specs.Effects.{left_by};
 ghost use Rattle.cli_machine.specs.Machine.{decrypt_on, draws_of, encrypt_on, noise_on, noise_text, quiet};
+ghost use Rattle.cli_session.specs.Parts.{opened_of, save_cipher_on};
 
+use crate::found::Opened;
 use crate::opening::{first_cipher, first_public, first_secret, later_cipher};
 use crate::reading::{array, free, seed};
 use cipher_core::{Cipher, CipherFault, Scheme};
@@ -47,12 +49,35 @@ pub fn encrypt<S: Shelf>(
     let opened = first_public(alloc, shelf, key)?;
     let seed = seed(alloc, shelf, seed_name)?;
     let array = array(alloc, shelf, opened.scheme.slots.as_ref(), input)?;
+    save_cipher(alloc, shelf, &opened, seed, stream, &array, cipher)
+}
+
+/// Saves the ciphertext of an array that a stream of a seed gives under a public key.
+fn save_cipher<S: Shelf>(
+    alloc: Global,
+    shelf: &mut S,
+    opened: &Opened<Public>,
+    seed: [u8; 32],
+    stream: u64,
+    array: &SlotArray,
+    name: &Name,
+) -> Result<Effect, Cause>
+    requires scheme { IsScheme (setting_of opened.now.scheme) }
+    requires key { IsPublicUnder opened.now.scheme.tables.value opened.now.value }
+    requires array { IsArray opened.now.scheme.slots.value.field opened.now.scheme.slots.value.cube array.now }
+    ensures tells { S.tells shelf.new ≡ S.tells shelf.old }
+    ensures kept { S.files shelf.new ≡ S.files shelf.old }
+    ensures gives { IsTrue (S.tells shelf.old) → Gives left_by result (save_cipher_on (opened_of key_of opened.now) seed stream array.now name.now (S.files shelf.old)) }
+    ensures free { IsTrue (S.tells shelf.old) → IfOk result (λ effect. IsFree effect (S.files shelf.old)) }
+    ensures counts { Counts (faulted is_shelf_fault result) (S.faults shelf.old) (S.faults shelf.new) }
+    ensures cause { IfErr result IsOfReading }
+{
     let file = FileName {
-        name: cipher.copy(alloc)?,
+        name: name.copy(alloc)?,
         kind: FileKind::Cipher,
     };
     free(alloc, shelf, &file)?;
-    let cipher = sealed(alloc, &opened.scheme, &opened.value, seed, stream, &array)?;
+    let cipher = sealed(alloc, &opened.scheme, &opened.value, seed, stream, array)?;
     let text = write_cipher(alloc, &opened.header, &cipher)?;
     Ok(Effect::Saves {
         file,
