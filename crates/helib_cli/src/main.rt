@@ -3,10 +3,6 @@
 #![tactic(auto)]
 
 #[cfg(test)]
-mod sealed;
-#[cfg(test)]
-mod tables;
-#[cfg(test)]
 mod tests;
 
 use cli_machine::{Cause, Status, number, report};

@@ -2,13 +2,13 @@
 use cli_machine::{number, report};
 use cli_session::session;
 use line_text::{FileKind, FileName, Name};
-use shelf_core::{Loaded, MemShelf, MemSink, Put, Shelf, Sink, are_distinct};
+use shelf_core::{MemShelf, MemSink, Put, Sink, are_distinct};
 use std::alloc::Global;
 use std::process::Abort;
 use std::test::Fail;
 
 /// The files of the shelf, one a line: its name, a colon, and its text, where `;` stands for a
-/// newline and `~` for byte 13; behind a `$` stand hexadecimal digits, two a byte.
+/// newline and `~` for byte 13.
 const FILES: &str =
     "a.table:m = 7;p = 2;factor = [1, 1, 0, 1];dual = [[1,0,0],[0,0,1],[0,1,0]];generators = [[6, 2]];
 turned.table:generators=[[6,2]]#~;factor=[1,1,0,1]~;dual=[[1,0,0],[0,0,1],[0,1,0],]~;p=0x2;m=+7
@@ -165,27 +165,6 @@ fn text_of(alloc: Global, spelling: &str) -> Result<Vec<u8>, Fail> {
     Ok(text)
 }
 
-/// The bytes of hexadecimal digits, two each.
-fn bytes_of(alloc: Global, digits: &str) -> Result<Vec<u8>, Fail> {
-    let mut bytes = Vec::new(alloc);
-    let mut high = None;
-    for digit in digits.bytes() {
-        let value = match digit {
-            b'0'..=b'9' => digit - b'0',
-            b'a'..=b'f' => digit - b'a' + 10,
-            _ => return Err(Fail::from("no digit")),
-        };
-        high = match high {
-            None => Some(value << 4),
-            Some(first) => {
-                bytes.push(first | value)?;
-                None
-            }
-        };
-    }
-    Ok(bytes)
-}
-
 /// The file name of a name and an extension with a dot between.
 fn file_name(alloc: Global, text: &str) -> Result<FileName, Fail> {
     let (name, extension) = text.split_once('.').ok_or("no dot")?;
@@ -194,10 +173,6 @@ fn file_name(alloc: Global, text: &str) -> Result<FileName, Fail> {
         "tmpl" => FileKind::Template,
         "prog" => FileKind::Prog,
         "slots" => FileKind::Slots,
-        "seed" => FileKind::Seed,
-        "sk" => FileKind::Secret,
-        "pk" => FileKind::Public,
-        "ct" => FileKind::Cipher,
         _ => return Err(Fail::from("no kind")),
     };
     let name = Name::read(alloc, name.as_bytes())?.ok_or("no name")?;
@@ -209,11 +184,7 @@ fn files(alloc: Global, list: &str) -> Result<Vec<(FileName, Vec<u8>)>, Fail> {
     let mut files = Vec::new(alloc);
     for row in list.lines() {
         let (name, text) = row.split_once(':').ok_or("no colon")?;
-        let bytes = match text.strip_prefix("$") {
-            Some(digits) => bytes_of(alloc, digits)?,
-            None => text_of(alloc, text)?,
-        };
-        files.push((file_name(alloc, name)?, bytes))?;
+        files.push((file_name(alloc, name)?, text_of(alloc, text)?))?;
     }
     Ok(files)
 }
@@ -227,24 +198,8 @@ fn words_of(alloc: Global, line: &str) -> Result<Vec<String>, Fail> {
     Ok(words)
 }
 
-/// Whether a line that is done saves a file.
-fn is_saving(line: &str) -> bool {
-    line.starts_with("maketable ")
-        || line.starts_with("keygen ")
-        || line.starts_with("pubkey ")
-        || line.starts_with("encrypt ")
-}
-
-/// The bytes of a file of the shelf.
-fn held(alloc: Global, shelf: &mut MemShelf, name: &str) -> Result<Vec<u8>, Fail> {
-    match shelf.load(alloc, &file_name(alloc, name)?) {
-        Loaded::Found(bytes) => Ok(bytes),
-        _ => Err(Fail::from("no file")),
-    }
-}
-
 /// Runs lines, one after the other, over these files, where these calls of the shelf and of the sink
-/// fail. Gives what was printed and reported, and the last exit status. A line `same A B` compares two files.
+/// fail. Gives what was printed and reported, and the last exit status.
 fn run<R: Abort + AllocGlobal>(
     rt: &R,
     lines: &str,
@@ -259,19 +214,12 @@ fn run<R: Abort + AllocGlobal>(
     let mut sink = MemSink::new(alloc, Vec::from_slice(alloc, sink_failing)?);
     let mut ended = 0;
     for line in lines.split('|') {
-        if let Some(pair) = line.strip_prefix("same ") {
-            let (one, other) = pair.split_once(' ').ok_or("no pair")?;
-            let wanted = held(alloc, &mut shelf, other)?;
-            let found = held(alloc, &mut shelf, one)?;
-            assert_eq!(rt; found.as_slice(), wanted.as_slice(), "in {lines}");
-            continue;
-        }
         let words = words_of(alloc, line)?;
         let status = session(alloc, &words, &mut shelf, &mut sink);
         let text = report(alloc, &status)?;
         assert!(rt; matches!(sink.put(alloc, text.as_slice()), Put::Done));
         ended = number(&status);
-        if ended == 0 && is_saving(line) {
+        if ended == 0 && line.starts_with("maketable ") {
             count += 1;
         }
         assert_eq!(rt; shelf.files().len(), count, "in {line}");
@@ -289,27 +237,16 @@ fn rows() -> &'static str {
     ROWS
 }
 
-/// Runs the lines of each case over these files and compares what they print and report, and the last status.
-pub fn check_rows<R: Abort + AllocGlobal>(rt: &R, list: &str, rows: &str) -> Result<(), Fail> {
-    for row in rows.lines() {
-        let (lines, rest) = row.split_once(':').ok_or("no colon")?;
-        let (text, status) = rest.split_once(':').ok_or("no status")?;
-        check(rt, list, lines, &[], &[], text, status.parse::<u8>()?)?;
-    }
-    Ok(())
-}
-
 /// Runs lines and compares what they print and report, and the last status.
-pub fn check<R: Abort + AllocGlobal>(
+fn check<R: Abort + AllocGlobal>(
     rt: &R,
-    list: &str,
     lines: &str,
     shelf_failing: &[u64],
     sink_failing: &[u64],
     spelling: &str,
     status: u8,
 ) -> Result<(), Fail> {
-    let files = files(rt.alloc(), list)?;
+    let files = files(rt.alloc(), file_list())?;
     let (text, ended) = run(rt, lines, files, shelf_failing, sink_failing)?;
     let wanted = text_of(rt.alloc(), spelling)?;
     assert_eq!(rt; text.as_slice(), wanted.as_slice(), "in {lines}");
@@ -319,7 +256,12 @@ pub fn check<R: Abort + AllocGlobal>(
 
 #[test]
 fn sessions(rt: HostRuntime) -> Result<(), Fail> {
-    check_rows(&rt, file_list(), rows())
+    for row in rows().lines() {
+        let (lines, rest) = row.split_once(':').ok_or("no colon")?;
+        let (text, status) = rest.split_once(':').ok_or("no status")?;
+        check(&rt, lines, &[], &[], text, status.parse::<u8>()?)?;
+    }
+    Ok(())
 }
 
 #[test]
@@ -327,7 +269,6 @@ fn each_call_fails(rt: HostRuntime) -> Result<(), Fail> {
     for call in 0..4u64 {
         check(
             &rt,
-            file_list(),
             "clear a prod x y",
             &[call],
             &[],
@@ -338,7 +279,6 @@ fn each_call_fails(rt: HostRuntime) -> Result<(), Fail> {
     for call in 0..3u64 {
         check(
             &rt,
-            file_list(),
             "maketable mb made",
             &[call],
             &[],
@@ -348,7 +288,6 @@ fn each_call_fails(rt: HostRuntime) -> Result<(), Fail> {
     }
     check(
         &rt,
-        file_list(),
         "clear a prod x y",
         &[4],
         &[0],
@@ -370,17 +309,9 @@ fn names_of_64_bytes(rt: HostRuntime) -> Result<(), Fail> {
     let longest = "abcdefghijklmnopqrstuvwxyz0123456789_abcdefghijklmnopqrstuvwxyz0";
     let line = format!(in rt.alloc(); "clear {longest} same x")?;
     let text = format!(in rt.alloc(); "stopped 0 NoFile {longest}.table;")?;
-    check(&rt, file_list(), line.as_str(), &[], &[], text.as_str(), 3)?;
+    check(&rt, line.as_str(), &[], &[], text.as_str(), 3)?;
     let line = format!(in rt.alloc(); "clear {longest}1 same x")?;
-    check(
-        &rt,
-        file_list(),
-        line.as_str(),
-        &[],
-        &[],
-        "stopped 0 Words;",
-        2,
-    )
+    check(&rt, line.as_str(), &[], &[], "stopped 0 Words;", 2)
 }
 
 /// Runs a program of two instructions and so many blank lines before them.
