@@ -17,6 +17,14 @@ def content(text):
     return bytes.fromhex(text[1:]) if text.startswith("$") else text.replace(";", "\n").replace("~", "\r").encode()
 
 
+def held(folder, name):
+    path = os.path.join(folder, name)
+    if not os.path.exists(path):
+        return name
+    with open(path, "rb") as file:
+        return file.read()
+
+
 def run(program, files, row):
     lines, want, status = row.split(":")
     with tempfile.TemporaryDirectory() as folder:
@@ -27,8 +35,7 @@ def run(program, files, row):
         for line in lines.split("|"):
             words = line.split()
             if words[:1] == ["same"]:
-                one, other = (open(os.path.join(folder, name), "rb").read() for name in words[1:])
-                if one != other:
+                if held(folder, words[1]) != held(folder, words[2]):
                     return f"{words[1]} and {words[2]} differ"
                 continue
             done = subprocess.run([program, *words], cwd=folder, capture_output=True)
