@@ -2,9 +2,6 @@
 //! with the number of the cause where it stops.
 #![tactic(auto)]
 
-#[cfg(test)]
-mod tests;
-
 use cli_machine::{Cause, Status, number, report};
 use cli_session::session;
 use shelf_core::{FolderShelf, OutSink, Sink};
