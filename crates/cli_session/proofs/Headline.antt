@@ -1,56 +1,22 @@
 -- What `clear` prints, from what the machine says of its line.
-use Rattle.std.proofs.Common.{◌≡◌, ℕ, Bool, true, false, cond, List, [], ◌∷◌, length, Option, Some, None, Result, Ok, Err, refl, sym, ap, ◌∙◌, subst}
-use Rattle.std.specs.Option.{ok_or}
+use Rattle.std.proofs.Common.{◌≡◌, ℕ, Bool, true, false, cond, List, [], ◌∷◌, length, Result, Ok, Err, refl, sym, ◌∙◌, subst}
 use Rattle.std.specs.Prelude.{◌==◌}
-use Rattle.line_text.specs.declared.kinds.FileKind.TheVariants.{Table, Slots, Prog}
-use Rattle.line_text.specs.declared.kinds.FileName.{FileName}
-use Rattle.shelf_core.specs.Files.{File, bytes_of}
+use Rattle.line_text.specs.declared.kinds.FileKind.TheVariants.{Prog}
+use Rattle.shelf_core.specs.Files.{File}
 use Rattle.slot_array.specs.Arrays.{Array}
-use Rattle.slot_array.specs.SlotsText.{slots_of}
 use Rattle.slot_factor.specs.Packing.{Packing}
 use Rattle.slot_program.specs.declared.kinds.Step.{Step}
 use Rattle.slot_program.specs.Program.{input_count}
 use Rattle.slot_program.specs.Text.{program_of}
-use Rattle.table_file.specs.Accepted.{table_of}
-use Rattle.table_file.specs.Setting.{Setting}
 use Rattle.cli_machine.specs.declared.cause.Cause.{Cause}
 use Rattle.cli_machine.specs.declared.cause.Cause.TheVariants.{Arity}
 use Rattle.cli_machine.specs.declared.cause.Status.{Status}
 use Rattle.cli_machine.specs.Clauses.{outcome_of, PrintsAll, Shows}
 use Rattle.cli_machine.specs.Effects.{Wanted}
 use Rattle.cli_machine.specs.Machine.{◌>>=◌, or_else, loaded, file_of, table_on, program_on, array_on, arrays_on, matched, clear_on, line_on}
-use Rattle.cli_machine.specs.Plain.{ClearPrints, PrintsMeaning, HoldsTable, HoldsProgram, HoldsArray, HoldsArrays}
+use Rattle.cli_machine.proofs.Chains.{bind_ok, read_of, loaded_is, holds_table, holds_array}
+use Rattle.cli_machine.specs.Plain.{ClearPrints, PrintsMeaning, HoldsProgram, HoldsArrays}
 use Rattle.std.proofs.lemmas.Bool.{eqb-true}
-
-bind_ok : {A B : Type 0} (r : Result A Cause) (f : A → Result B Cause) (y : B) → (r >>= f) ≡ Ok y → (x : A) × (r ≡ Ok x) × (f x ≡ Ok y)
-bind_ok (Ok x) f y is = (x, refl, is)
-bind_ok (Err cause) f y is = absurd (cc)
-
-some_of : {A : Type 0} (o : Option A) (cause : Cause) (x : A) → ok_or o cause ≡ Ok x → o ≡ Some x
-some_of None cause x is = absurd (cc)
-some_of (Some y) cause x is =
-    let same : y ≡ x = cc in
-    ap Some same
-
-read_of : {A E : Type 0} (cause : E → Cause) (r : Result A E) (x : A) → or_else cause r ≡ Ok x → r ≡ Ok x
-read_of cause (Err fault) x is = absurd (cc)
-read_of cause (Ok y) x is =
-    let same : y ≡ x = cc in
-    ap Ok same
-
-loaded_is : (file : FileName) (files : List File) (text : List ℕ) → loaded file files ≡ Ok text → bytes_of file files ≡ Some text
-unfolding loaded
-loaded_is file files text is = some_of (bytes_of file files) _ text is
-
-holds_table : (name : List ℕ) (files : List File) (setting : Setting) → table_on name files ≡ Ok setting → HoldsTable name setting files
-unfolding table_on
-holds_table name files setting is =
-    let read = bind_ok (loaded (file_of Table name) files) _ setting is in
-    record {
-      text = read.0;
-      held = loaded_is (file_of Table name) files read.0 read.1;
-      read = read_of _ (table_of read.0) setting read.2;
-    }
 
 holds_program : (packing : Packing) (name : List ℕ) (steps : List Step) (files : List File) → program_on packing name files ≡ Ok steps → HoldsProgram packing name steps files
 unfolding program_on
@@ -60,16 +26,6 @@ holds_program packing name steps files is =
       text = read.0;
       held = loaded_is (file_of Prog name) files read.0 read.1;
       read = read_of _ (program_of packing.field packing.cube read.0) steps read.2;
-    }
-
-holds_array : (packing : Packing) (name : List ℕ) (a : Array) (files : List File) → array_on packing name files ≡ Ok a → HoldsArray packing name a files
-unfolding array_on
-holds_array packing name a files is =
-    let read = bind_ok (loaded (file_of Slots name) files) _ a is in
-    record {
-      text = read.0;
-      held = loaded_is (file_of Slots name) files read.0 read.1;
-      read = read_of _ (slots_of packing.field packing.cube read.0) a read.2;
     }
 
 holds_arrays : (packing : Packing) (names : List (List ℕ)) (arrays : List Array) (files : List File) → arrays_on packing names files ≡ Ok arrays → HoldsArrays packing names arrays files

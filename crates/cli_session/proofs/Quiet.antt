@@ -6,7 +6,6 @@ use Rattle.noise_bound.specs.declared.rounding.Bound.{Bound}
 use Rattle.noise_bound.specs.Form.{bound_of}
 use Rattle.noise_bound.specs.Machine.{fresh, limit}
 use Rattle.noise_bound.specs.Value.{value}
-use Rattle.noise_bound.proofs.BoundForms.{bound_of-value}
 use Rattle.residue_rows.specs.Kept.{RingSetting}
 use Rattle.scheme_laws.specs.Scheme.{sizes_of, top}
 use Rattle.cli_machine.specs.declared.cause.Cause.{Cause}
@@ -39,10 +38,10 @@ abbrev noisy : Bound → Bound → Result Unit Cause
 noisy bound most = Err (TooNoisy 0 bound most)
 
 -- a bound that is not
-pub refuses : (ring : RingSetting) (bound most : Bound) → value bound ≡ fresh (sizes_of ring) → value most ≡ limit (sizes_of ring) (top ring)
+pub refuses : ((b : Bound) → bound_of (value b) ≡ b) → (ring : RingSetting) (bound most : Bound) → value bound ≡ fresh (sizes_of ring) → value most ≡ limit (sizes_of ring) (top ring)
     → limit (sizes_of ring) (top ring) ≤ fresh (sizes_of ring) → quiet ring ≡ Err (TooNoisy 0 bound most)
 unfolding quiet
-refuses ring bound most is_fresh is_limit above =
+refuses back ring bound most is_fresh is_limit above =
     answer-above (fresh (sizes_of ring)) (limit (sizes_of ring) (top ring)) (TooNoisy 0 (bound_of (fresh (sizes_of ring))) (bound_of (limit (sizes_of ring) (top ring)))) above
-    ∙ ap (λ b. noisy b (bound_of (limit (sizes_of ring) (top ring)))) (ap bound_of (sym is_fresh) ∙ bound_of-value bound)
-    ∙ ap (λ b. noisy bound b) (ap bound_of (sym is_limit) ∙ bound_of-value most)
+    ∙ ap (λ b. noisy b (bound_of (limit (sizes_of ring) (top ring)))) (ap bound_of (sym is_fresh) ∙ back bound)
+    ∙ ap (λ b. noisy bound b) (ap bound_of (sym is_limit) ∙ back most)

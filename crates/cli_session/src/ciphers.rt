@@ -19,11 +19,12 @@ use crate::opening::{first_cipher, first_public, first_secret, later_cipher};
 use crate::reading::{array, free, seed};
 use cipher_core::{Cipher, CipherFault, Scheme};
 use cli_machine::{Cause, Effect, Text, put_bound};
+use cyclotomic::polynomials::law_degree_is_units;
 use draw_stream::Draws;
 use he_files::write_cipher;
 use key_switch::Public;
 use line_text::{FileKind, FileName, Name, put_number};
-use noise_bound::Bound;
+use noise_bound::{Bound, law_bound_of, law_form};
 use shelf_core::Shelf;
 use slot_array::{SlotArray, print_slots};
 use std::alloc::{AllocError, Global};
@@ -106,6 +107,8 @@ fn sealed(
     ensures counts { faulted is_shelf_fault result ≡ false }
     ensures cause { IfErr result IsOfReading }
 {
+    law_degree_is_units();
+    law_bound_of();
     match scheme.encrypt(alloc, public, &mut Draws::new(seed, stream), array) {
         Ok(cipher) => Ok(cipher),
         Err(CipherFault::TooNoisy { bound, limit }) => Err(Cause::TooNoisy {
@@ -174,6 +177,7 @@ fn noise_line(alloc: Global, scheme: &Scheme, cipher: &Cipher) -> Result<Vec<u8>
 fn put_bounded(text: &mut Vec<u8>, word: &[u8], bound: Bound) -> Result<(), AllocError>
     ensures { OnOk result (text.new.items ≡ text.old.items ++ bounded word.now (value bound)) }
 {
+    law_form();
     text.extend_from_slice(word)?;
     put_bound(text, bound)
 }

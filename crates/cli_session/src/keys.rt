@@ -11,6 +11,7 @@ ghost use Rattle.cli_machine.specs.Machine.{draws_of, key_gen_on, pub_key_on};
 use crate::opening::first_secret;
 use crate::reading::{chained, free, seed};
 use cli_machine::{Cause, Effect, Text};
+use cyclotomic::polynomials::law_degree_is_units;
 use double_crt::RingTables;
 use draw_stream::Draws;
 use he_files::{Header, write_public, write_secret};
@@ -68,6 +69,7 @@ fn secret_text(
     requires { IsSetting tables.now.value }
     ensures { IfOk result (λ text. text.items ≡ secret_bytes header.now (secret_drawn tables.now.value (draws_of seed stream))) }
 {
+    law_degree_is_units();
     let secret = secret(alloc, tables, &mut Draws::new(seed, stream))?;
     write_secret(alloc, header, &secret)
 }
@@ -118,6 +120,7 @@ fn public_text(
     ensures { IfOk result (λ text. text.items ≡ public_bytes tables.now.value header.now
         (public_drawn tables.now.value secret.now.coeffs.items (draws_of seed stream))) }
 {
+    law_degree_is_units();
     let public = public(alloc, tables, secret, &mut Draws::new(seed, stream))?;
     write_public(alloc, header, &public)
 }

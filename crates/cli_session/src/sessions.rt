@@ -41,6 +41,10 @@ pub fn session<S: Shelf, O: Sink>(
     ensures shelf_counts { Counts (faulted is_shelf_fault (outcome_of result)) (S.faults shelf.old) (S.faults shelf.new) }
     ensures sink_counts { Counts (faulted is_sink_fault (outcome_of result)) (O.faults out.old) (O.faults out.new) }
 
+    // What tells goes on telling.
+    ensures shelf_tells { S.tells shelf.new ≡ S.tells shelf.old }
+    ensures sink_tells { O.tells out.new ≡ O.tells out.old }
+
     // Whatever the shelf holds.
     ensures quiet { IsTrue (O.tells out.old) → Adds (outcome_of result) (O.bytes out.old) (O.bytes out.new) }
     ensures own { IsOwnStop result }
@@ -58,6 +62,8 @@ fn one_line<S: Shelf, O: Sink>(
     shelf: &mut S,
     out: &mut O,
 ) -> Status
+    ensures shelf_tells { S.tells shelf.new ≡ S.tells shelf.old }
+    ensures sink_tells { O.tells out.new ≡ O.tells out.old }
     ensures leaves { IsTrue (S.tells shelf.old)
         → Leaves (outcome_of result) (line_on (map string_bytes words.now) (S.files shelf.old)) (S.files shelf.old) (S.files shelf.new) }
     ensures shows { IsTrue (S.tells shelf.old) → IsTrue (O.tells out.old)
@@ -81,6 +87,8 @@ fn line<S: Shelf, O: Sink>(
     shelf: &mut S,
     out: &mut O,
 ) -> Result<(), Cause>
+    ensures shelf_tells { S.tells shelf.new ≡ S.tells shelf.old }
+    ensures sink_tells { O.tells out.new ≡ O.tells out.old }
     ensures leaves { IsTrue (S.tells shelf.old)
         → Leaves result (line_on (map string_bytes words.now) (S.files shelf.old)) (S.files shelf.old) (S.files shelf.new) }
     ensures shows { IsTrue (S.tells shelf.old) → IsTrue (O.tells out.old)
@@ -142,6 +150,8 @@ fn act<S: Shelf, O: Sink>(
     out: &mut O,
 ) -> Result<(), Cause>
     requires { IsTrue (S.tells shelf.old) → IsFree effect.now (S.files shelf.old) }
+    ensures shelf_tells { S.tells shelf.new ≡ S.tells shelf.old }
+    ensures sink_tells { O.tells out.new ≡ O.tells out.old }
     ensures leaves { IsTrue (S.tells shelf.old) → Leaves result (Ok (left_by effect.now)) (S.files shelf.old) (S.files shelf.new) }
     ensures shows { IsTrue (O.tells out.old) → Shows result (Ok (left_by effect.now)) (O.bytes out.old) (O.bytes out.new) }
     ensures shelf_counts { Counts (faulted is_shelf_fault result) (S.faults shelf.old) (S.faults shelf.new) }

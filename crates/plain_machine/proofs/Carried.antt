@@ -30,7 +30,7 @@ module _ (laws : LowerLaws) where
   -- a line that is done
   line_keeps : (words : List (List ℕ)) (state : PlainState) (old new : List File) → Carries state old → LeavesDone (line_on words old) old new → Carries (stepped words state old) new
   unfolding line_on
-  line_keeps words state old new C leaves = go (command_of words) (command_names words) leaves
+  line_keeps words state old new C leaves = go (command_of words) (command_names laws.names words) leaves
     where
       through : (command : Command) (on : Result Wanted Cause) → On (Keeps laws state old C command) on → LeavesDone on old new → Carries (after_words (Some command) state old) new
       through command (Ok wanted) keeps leaves = keeps new leaves

@@ -1,9 +1,8 @@
 -- The names of a key that is made are names.
 use Rattle.std.proofs.Common.{◌≡◌, ℕ, Bool, true, false, cond, List, [], ◌∷◌, Option, Some, None, refl, sym, subst}
 use Rattle.std.specs.Prelude.{⊤, IfSome, bytes_eq, codes}
-use Rattle.line_text.specs.Names.{IsName, name_of}
+use Rattle.line_text.specs.Names.{IsName, name_of, SpellsItself}
 use Rattle.line_text.specs.Numbers.{number_of}
-use Rattle.line_text.proofs.NameTests.{spells_itself}
 use Rattle.cli_machine.specs.declared.command.Command.{Command}
 use Rattle.cli_machine.specs.declared.command.Command.TheVariants.{Clear, Summarise, MakeTable, KeyGen, PubKey, Encrypt, Decrypt, Noise}
 use Rattle.cli_machine.specs.Commands.{◌>>=◌, names_of, pair_of, clear_of, summarise_of, make_table_of, key_gen_of, pub_key_of, encrypt_of, decrypt_of, noise_of, command_of}
@@ -22,9 +21,9 @@ choice : (b : Bool) (x y : Option Command) → IfSome x NamesKey → IfSome y Na
 choice true x y h k = h
 choice false x y h k = k
 
-is_name : (word name : List ℕ) → name_of word ≡ Some name → IsName name
-is_name word name is =
-    let facts = (spells_itself word name).0 is in
+is_name : SpellsItself → (word name : List ℕ) → name_of word ≡ Some name → IsName name
+is_name spells word name is =
+    let facts = (spells word name).0 is in
     subst IsName (sym facts.1) facts.0
 
 clear_names : (words : List (List ℕ)) → IfSome (clear_of words) NamesKey
@@ -47,14 +46,14 @@ make_table_names (a ∷ []) = tt
 make_table_names (a ∷ b ∷ []) = bind_some (pair_of a b) _ (λ pair is. tt)
 make_table_names (a ∷ b ∷ c ∷ more) = tt
 
-key_gen_names : (words : List (List ℕ)) → IfSome (key_gen_of words) NamesKey
+key_gen_names : SpellsItself → (words : List (List ℕ)) → IfSome (key_gen_of words) NamesKey
 unfolding key_gen_of
-key_gen_names [] = tt
-key_gen_names (a ∷ []) = tt
-key_gen_names (a ∷ b ∷ []) = tt
-key_gen_names (a ∷ b ∷ c ∷ []) = tt
-key_gen_names (a ∷ b ∷ c ∷ d ∷ []) = bind_some (name_of a) _ (λ t t_is. bind_some (name_of b) _ (λ k k_is. bind_some (name_of c) _ (λ s s_is. bind_some (number_of d) _ (λ n n_is. (is_name a t t_is, is_name b k k_is)))))
-key_gen_names (a ∷ b ∷ c ∷ d ∷ e ∷ more) = tt
+key_gen_names spells [] = tt
+key_gen_names spells (a ∷ []) = tt
+key_gen_names spells (a ∷ b ∷ []) = tt
+key_gen_names spells (a ∷ b ∷ c ∷ []) = tt
+key_gen_names spells (a ∷ b ∷ c ∷ d ∷ []) = bind_some (name_of a) _ (λ t t_is. bind_some (name_of b) _ (λ k k_is. bind_some (name_of c) _ (λ s s_is. bind_some (number_of d) _ (λ n n_is. (is_name spells a t t_is, is_name spells b k k_is)))))
+key_gen_names spells (a ∷ b ∷ c ∷ d ∷ e ∷ more) = tt
 
 pub_key_names : (words : List (List ℕ)) → IfSome (pub_key_of words) NamesKey
 unfolding pub_key_of
@@ -88,14 +87,14 @@ noise_names (a ∷ []) = bind_some (name_of a) _ (λ x is. tt)
 noise_names (a ∷ b ∷ more) = tt
 
 -- the names of the table and of the key that the words of a line make
-pub command_names : (words : List (List ℕ)) → IfSome (command_of words) NamesKey
+pub command_names : SpellsItself → (words : List (List ℕ)) → IfSome (command_of words) NamesKey
 unfolding command_of
-command_names [] = tt
-command_names (word ∷ words) =
+command_names spells [] = tt
+command_names spells (word ∷ words) =
     choice (bytes_eq word (codes "clear")) _ _ (clear_names words)
     (choice (bytes_eq word (codes "table")) _ _ (summarise_names words)
     (choice (bytes_eq word (codes "maketable")) _ _ (make_table_names words)
-    (choice (bytes_eq word (codes "keygen")) _ _ (key_gen_names words)
+    (choice (bytes_eq word (codes "keygen")) _ _ (key_gen_names spells words)
     (choice (bytes_eq word (codes "pubkey")) _ _ (pub_key_names words)
     (choice (bytes_eq word (codes "encrypt")) _ _ (encrypt_names words)
     (choice (bytes_eq word (codes "decrypt")) _ _ (decrypt_names words)

@@ -5,8 +5,8 @@ use Rattle.std.proofs.lemmas.Slice.Eq.{bytes_eq-Decides}
 use Rattle.line_text.specs.declared.kinds.FileKind.{FileKind}
 use Rattle.line_text.specs.declared.kinds.FileName.{FileName}
 use Rattle.shelf_core.specs.Files.{File, bytes_of, same_file}
-use Rattle.shelf_core.proofs.FileLemmas.{same_file-Decides, bytes_of-push}
 use Rattle.cli_machine.specs.Machine.{file_of}
+use Rattle.plain_machine.specs.Lower.{LowerLaws}
 use Rattle.plain_machine.specs.PlainState.{with_name}
 
 -- what is held goes on being held
@@ -19,13 +19,13 @@ held_grows name (file ∷ files) more bytes is = go (same_file file.name name) (
     go false rest is = rest is
 
 -- the added file is held
-pub new_held : (file : File) (files : List File) → bytes_of file.name files ≡ None → bytes_of file.name (files ++ file ∷ []) ≡ Some file.bytes
-new_held file files free =
-    bytes_of-push files file free file.name ∙ ap (λ b. cond b (Some file.bytes) (bytes_of file.name files)) ((same_file-Decides file.name file.name).1 refl)
+pub new_held : LowerLaws → (file : File) (files : List File) → bytes_of file.name files ≡ None → bytes_of file.name (files ++ file ∷ []) ≡ Some file.bytes
+new_held laws file files free =
+    laws.adds_file files file free file.name ∙ ap (λ b. cond b (Some file.bytes) (bytes_of file.name files)) ((laws.same_file file.name file.name).1 refl)
 
 -- under another name nothing new is held
-pub absent_grows : (file : File) (name : FileName) (files : List File) → bytes_of file.name files ≡ None → file.name ≢ name → bytes_of name files ≡ None → bytes_of name (files ++ file ∷ []) ≡ None
-absent_grows file name files free other absent = bytes_of-push files file free name ∙ go (same_file file.name name) (same_file-Decides file.name name).0
+pub absent_grows : LowerLaws → (file : File) (name : FileName) (files : List File) → bytes_of file.name files ≡ None → file.name ≢ name → bytes_of name files ≡ None → bytes_of name (files ++ file ∷ []) ≡ None
+absent_grows laws file name files free other absent = laws.adds_file files file free name ∙ go (same_file file.name name) (laws.same_file file.name name).0
   where
     go : (b : Bool) → (b ≡ true → file.name ≡ name) → cond b (Some file.bytes) (bytes_of name files) ≡ None
     go true same = absurd (other (same refl))
@@ -39,9 +39,9 @@ abbrev pub Names : {A : Type 0} → FileKind → (List ℕ → A → List File �
 Names kind P held files = (name : List ℕ) → At kind P name files (held name)
 
 -- where what is held lasts when files are added
-module _ {A : Type 0} (kind : FileKind) (P : List ℕ → A → List File → Type 0) (grows : (name : List ℕ) (x : A) (files more : List File) → P name x files → P name x (files ++ more)) where
+module _ (laws : LowerLaws) {A : Type 0} (kind : FileKind) (P : List ℕ → A → List File → Type 0) (grows : (name : List ℕ) (x : A) (files more : List File) → P name x files → P name x (files ++ more)) where
   at_grows : (file : File) (files : List File) (name : List ℕ) (value : Option A) → bytes_of file.name files ≡ None → file.name ≢ file_of kind name → At kind P name files value → At kind P name (files ++ file ∷ []) value
-  at_grows file files name None free other absent = absent_grows file (file_of kind name) files free other absent
+  at_grows file files name None free other absent = absent_grows laws file (file_of kind name) files free other absent
   at_grows file files name (Some x) free other is = grows name x files (file ∷ []) is
 
   -- a file of another kind

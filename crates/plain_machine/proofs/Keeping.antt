@@ -7,15 +7,11 @@ use Rattle.line_text.specs.Names.{IsName}
 use Rattle.shelf_core.specs.Files.{File, bytes_of}
 use Rattle.slot_array.specs.Arrays.{Array, IsArray}
 use Rattle.slot_array.specs.SlotsText.{slots_of, slots_text}
-use Rattle.slot_array.proofs.TextLaws.{read_law, array_law}
 use Rattle.slot_factor.specs.Packing.{Packing}
 use Rattle.noise_bound.specs.Machine.{fresh, limit}
 use Rattle.scheme_laws.specs.Scheme.{IsScheme, SchemeSetting, sizes_of, top}
 use Rattle.scheme_laws.specs.Keys.{IsSecret, PublicKey, public_drawn, secret_drawn}
 use Rattle.scheme_laws.specs.Ciphers.{Cipher, decrypted, encryption_drawn}
-use Rattle.scheme_laws.proofs.Drawn.{draws_law}
-use Rattle.scheme_laws.proofs.Fresh.{drawn_stands}
-use Rattle.scheme_laws.proofs.Decrypting.{decrypts}
 use Rattle.he_files.specs.declared.headers.Header.{Header}
 use Rattle.he_files.specs.Secret.{secret_of, secret_bytes}
 use Rattle.he_files.specs.PublicFile.{public_of, public_bytes}
@@ -92,16 +88,16 @@ module _ (laws : LowerLaws) (state : PlainState) (files : List File) (C : Carrie
 
   -- the names of kinds that the new file is not of
   other_secrets : (file : File) → bytes_of file.name files ≡ None → file.name.kind ≢ kinds.Secret → Names kinds.Secret CarriesSecret state.secrets (files ++ file ∷ [])
-  other_secrets file free other = other_kind kinds.Secret CarriesSecret named_secret_grows state.secrets file files free other C.secrets
+  other_secrets file free other = other_kind laws kinds.Secret CarriesSecret named_secret_grows state.secrets file files free other C.secrets
 
   other_publics : (file : File) → bytes_of file.name files ≡ None → file.name.kind ≢ kinds.Public → Names kinds.Public CarriesPublic state.publics (files ++ file ∷ [])
-  other_publics file free other = other_kind kinds.Public CarriesPublic public_grows state.publics file files free other C.publics
+  other_publics file free other = other_kind laws kinds.Public CarriesPublic public_grows state.publics file files free other C.publics
 
   other_ciphers : (file : File) → bytes_of file.name files ≡ None → file.name.kind ≢ kinds.Cipher → Names kinds.Cipher CarriesCipher state.ciphers (files ++ file ∷ [])
-  other_ciphers file free other = other_kind kinds.Cipher CarriesCipher cipher_grows state.ciphers file files free other C.ciphers
+  other_ciphers file free other = other_kind laws kinds.Cipher CarriesCipher cipher_grows state.ciphers file files free other C.ciphers
 
   no_evaluation : (file : File) → bytes_of file.name files ≡ None → file.name.kind ≢ kinds.Eval → (name : List ℕ) → bytes_of (file_of kinds.Eval name) (files ++ file ∷ []) ≡ None
-  no_evaluation file free other name = absent_grows file (file_of kinds.Eval name) files free (λ same. other (ap (λ (f : FileName). f.kind) same)) (C.no_evaluation name)
+  no_evaluation file free other name = absent_grows laws file (file_of kinds.Eval name) files free (λ same. other (ap (λ (f : FileName). f.kind) same)) (C.no_evaluation name)
 
   -- ---- `keygen`
   key_gen_saved : (table key seed : List ℕ) (stream : ℕ) → NamesKey (KeyGen table key seed stream) → (found : Chained) → HoldsChained table found files → (bytes : List ℕ) → bytes_of (file_of kinds.Secret key) files ≡ None
@@ -115,11 +111,11 @@ module _ (laws : LowerLaws) (state : PlainState) (files : List File) (C : Carrie
         names = record { table = names.0; key = names.1 };
         table = scheme_grows header files (file ∷ []) scheme_held;
         secret = drawn;
-        is_secret = (draws_law found.ring (scheme_is laws scheme_held).setting).secret (draws_of bytes stream);
-        spelled = new_held file files free;
+        is_secret = (laws.draws found.ring (scheme_is laws scheme_held).setting).secret (draws_of bytes stream);
+        spelled = new_held laws file files free;
       } in
       record {
-        secrets = new_name kinds.Secret CarriesSecret named_secret_grows state.secrets key file.bytes (Some header) header files refl free (record { own_name = refl; secret = secret }) C.secrets;
+        secrets = new_name laws kinds.Secret CarriesSecret named_secret_grows state.secrets key file.bytes (Some header) header files refl free (record { own_name = refl; secret = secret }) C.secrets;
         publics = other_publics file free (λ e. absurd (cc));
         ciphers = other_ciphers file free (λ e. absurd (cc));
         no_evaluation = no_evaluation file free (λ e. absurd (cc));
@@ -141,12 +137,12 @@ module _ (laws : LowerLaws) (state : PlainState) (files : List File) (C : Carrie
       let public : CarriesPublic key header (files ++ file ∷ []) = record {
         secret = secret_grows header files (file ∷ []) secret;
         key = drawn;
-        of_secret = (draws_law secret.table.ring (scheme_is laws secret.table).setting).public secret.secret (draws_of bytes stream);
-        spelled = new_held file files free;
+        of_secret = (laws.draws secret.table.ring (scheme_is laws secret.table).setting).public secret.secret (draws_of bytes stream);
+        spelled = new_held laws file files free;
       } in
       record {
         secrets = other_secrets file free (λ e. absurd (cc));
-        publics = new_name kinds.Public CarriesPublic public_grows state.publics key file.bytes (state.secrets key) header files is free public C.publics;
+        publics = new_name laws kinds.Public CarriesPublic public_grows state.publics key file.bytes (state.secrets key) header files is free public C.publics;
         ciphers = other_ciphers file free (λ e. absurd (cc));
         no_evaluation = no_evaluation file free (λ e. absurd (cc));
       }
@@ -180,21 +176,21 @@ module _ (laws : LowerLaws) (state : PlainState) (files : List File) (C : Carrie
       let sealed : Sealed = record { header = header; array = x } in
       let T : IsScheme t = scheme_is laws public.secret.table in
       let held = holds_array public.secret.table.setting.packing input x files read in
-      let array : IsArray t.field t.cube x = array_law t.field t.cube held.text x ((read_law t.field t.cube held.text x).0 held.read) in
-      let stands = drawn_stands t T public.secret.secret public.key (draws_of bytes stream) x public.secret.is_secret public.of_secret array in
+      let array : IsArray t.field t.cube x = laws.slots.array t.field t.cube held.text x ((laws.slots.read t.field t.cube held.text x).0 held.read) in
+      let stands = laws.stands t T public.secret.secret public.key (draws_of bytes stream) x public.secret.is_secret public.of_secret array in
       let carried : CarriesCipher cipher sealed (files ++ file ∷ []) = record {
         secret = secret_grows header files (file ∷ []) public.secret;
         cipher = drawn;
         is_cipher = stands.0;
-        bound = fresh_spelled public.secret.table.ring T.setting;
+        bound = fresh_spelled laws.degrees laws.bounds public.secret.table.ring T.setting;
         stands = stands.1;
         below = below;
-        spelled = new_held file files free;
+        spelled = new_held laws file files free;
       } in
       record {
         secrets = other_secrets file free (λ e. absurd (cc));
         publics = other_publics file free (λ e. absurd (cc));
-        ciphers = new_name kinds.Cipher CarriesCipher cipher_grows state.ciphers cipher file.bytes (sealed_by state key input files) sealed files (input_is key header is public.secret.table input x read) free carried C.ciphers;
+        ciphers = new_name laws kinds.Cipher CarriesCipher cipher_grows state.ciphers cipher file.bytes (sealed_by state key input files) sealed files (input_is key header is public.secret.table input x read) free carried C.ciphers;
         no_evaluation = no_evaluation file free (λ e. absurd (cc));
       }
 

@@ -6,7 +6,6 @@ use Rattle.shelf_core.specs.Files.{File, bytes_of}
 use Rattle.slot_array.specs.SlotsText.{slots_text}
 use Rattle.residue_rows.specs.Kept.{RingSetting}
 use Rattle.scheme_laws.specs.Ciphers.{Cipher, decrypted}
-use Rattle.scheme_laws.proofs.Decrypting.{decrypts}
 use Rattle.he_files.specs.declared.headers.Header.{Header}
 use Rattle.he_files.specs.Secret.{secret_of}
 use Rattle.he_files.specs.CipherFile.{cipher_of_bytes}
@@ -48,7 +47,7 @@ module _ (laws : LowerLaws) (state : PlainState) (files : List File) (C : Carrie
           let ciphers : c ≡ carried.cipher = read.1 (ap (λ (o : Opened (List ℤ)). o.table.ring) secrets) in
           let arrays : decrypted (scheme_in (chained_of secret.table)) secret.secret c ≡ sealed.array =
           (λ i. decrypted (scheme_in (secrets i).table) (secrets i).value (ciphers i))
-          ∙ decrypts (scheme carried.secret.table) (scheme_is laws carried.secret.table) carried.secret.secret carried.cipher sealed.array carried.secret.is_secret carried.is_cipher carried.stands carried.below in
+          ∙ laws.decrypts (scheme carried.secret.table) (scheme_is laws carried.secret.table) carried.secret.secret carried.cipher sealed.array carried.secret.is_secret carried.is_cipher carried.stands carried.below in
           (sealed, is, ap (λ x. Prints (slots_text x)) arrays))
 
       by_secret : (value : Option Header) → At kinds.Secret CarriesSecret key files value → On (PrintsSealed cipher) (decrypt_on key cipher files)

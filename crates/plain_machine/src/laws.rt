@@ -2,7 +2,13 @@
 ghost use Rattle.plain_machine.specs.CarryingLaws.{EmptyLaw, CarryingLaw, HistoryLaw, DecryptsLaw};
 ghost use Rattle.plain_machine.specs.Lower.{LowerLaws};
 
+use cyclotomic::polynomials::law_degree_is_units;
 use he_files::{law_cipher, law_header, law_public, law_secret};
+use line_text::law_names;
+use noise_bound::{law_bound_of, law_form, law_rounding};
+use scheme_laws::scheme::{law_decrypts as law_ciphers_decrypt, law_drawn_stands, law_draws};
+use shelf_core::law_files;
+use slot_array::law_slots_text;
 use table_file::law_accepted;
 
 /// Files without keys and ciphertexts carry the state that has nothing.
@@ -32,10 +38,20 @@ pub fn law_decrypts()
     lower();
 }
 
-/// What is known of the files, and of the tables that are accepted.
+/// What is known of names and files, of texts, of the scheme, of bounds, and of the tables that are accepted.
 fn lower()
     ensures { LowerLaws }
 {
+    law_names();
+    law_files();
+    law_slots_text();
+    law_degree_is_units();
+    law_rounding();
+    law_form();
+    law_bound_of();
+    law_draws();
+    law_drawn_stands();
+    law_ciphers_decrypt();
     law_header();
     law_secret();
     law_public();
