@@ -5,11 +5,15 @@
 //
 // It reads m, p, n, d = 1, weight, the chain with roots, Phi_m (n + 1 numbers), the idempotent (n numbers), the number of slots and T(e)
 // for each, and the array to encrypt. The seed is 32 bytes 0, and the streams are 1, 2 and 3. It writes FOLDER/k.sk, k.pk, c.ct without
-// their headers, and prints a line for each command: its name and its least time in microseconds, without tables and files.
+// their headers, and prints a line for each command: its name and its least processor time in microseconds, without tables and files.
 #include "transform.h"
 #include <fstream>
 #include <iostream>
 #include <string>
+#include <time.h>
+
+// processor time in microseconds
+static double spent() { timespec t; clock_gettime(CLOCK_PROCESS_CPUTIME_ID, &t); return t.tv_sec * 1e6 + t.tv_nsec / 1e3; }
 
 typedef std::vector<u64> Row;
 typedef std::vector<Row> Rows;
@@ -53,7 +57,7 @@ struct Table {
     int m, p, n, weight, slots;
     std::vector<Modulus> chain;
     std::vector<i64> phi, eps;
-    std::vector<int> units, T, inverse;
+    std::vector<int> units, T, inverse, filled;  // filled: the places below n of Phi_m that are not 0
     Row x;
 
     // the values at the units of n residues
@@ -71,7 +75,7 @@ struct Table {
         k.b.convolve(buf.data(), k.b.g, k.b.gs);
         for (int i = 0; i < m; i++) a[i] = csub(lazy(buf[i], k.b.icm[i], k.b.icms[i], k.q), k.q);
         for (int i = m - 1; i >= n; i--)
-            if (a[i]) for (int j = 0; j < n; j++) if (phi[j]) {
+            if (a[i]) for (int j : filled) {
                 u64 t = mulm(a[i], (u64)(phi[j] < 0 ? -phi[j] : phi[j]), k.q);
                 a[i - n + j] = phi[j] < 0 ? (a[i - n + j] + t) % k.q : (a[i - n + j] + k.q - t) % k.q;
             }
@@ -84,15 +88,21 @@ struct Table {
         for (auto &k : chain) { Row r(n); for (int i = 0; i < n; i++) r[i] = residue(a[i], k.q); out.push_back(forward(k, r)); }
         return out;
     }
+    // the sum of (x_e * eps)(X^k), folded once
     std::vector<i64> encode() const {
-        std::vector<i64> out(n, 0);
-        for (int e = 0; e < slots; e++) {  // x_e * eps(X^k)
-            Row moved(m, 0);
-            for (int i = 0; i < n; i++) moved[(u64)i * inverse[e] % m] += eps[i];
-            for (int i = m - 1; i >= n; i--)
-                if (moved[i]) for (int j = 0; j < n; j++) if (phi[j]) moved[i - n + j] = residue((i64)moved[i - n + j] - (i64)moved[i] * phi[j], p);
-            for (int i = 0; i < n; i++) out[i] = (out[i] + (i64)(x[e] * moved[i] % p)) % p;
+        Row sums(m, 0);  // sums of products below p^2, of which fewer than 2^30 are added
+        for (int e = 0; e < slots; e++) {
+            int at = 0;
+            for (int i = 0; i < n; i++) {
+                sums[at] += x[e] * (u64)eps[i];
+                at += inverse[e];
+                if (at >= m) at -= m;
+            }
         }
+        for (auto &c : sums) c %= p;
+        for (int i = m - 1; i >= n; i--)
+            if (sums[i]) for (int j : filled) sums[i - n + j] = residue((i64)sums[i - n + j] - (i64)sums[i] * phi[j], p);
+        std::vector<i64> out(sums.begin(), sums.begin() + n);
         for (auto &c : out) if (2 * c > p) c -= p;
         return out;
     }
@@ -111,6 +121,7 @@ int main(int argc, char **argv) {
     int n2 = 1; while (n2 < 2 * t.m - 1) n2 *= 2;
     for (auto &k : t.chain) { std::cin >> k.q >> k.zeta >> k.psi; k.b.build(t.m, k.q, k.zeta, k.psi, n2); k.ic = k.b.ic; k.ics = k.b.ics; }
     t.phi.resize(t.n + 1); for (auto &c : t.phi) std::cin >> c;
+    for (int j = 0; j < t.n; j++) if (t.phi[j]) t.filled.push_back(j);
     t.eps.resize(t.n); for (auto &c : t.eps) std::cin >> c;
     std::cin >> t.slots; t.T.resize(t.slots); for (auto &c : t.T) std::cin >> c;
     t.x.resize(t.slots); for (auto &c : t.x) std::cin >> c;
@@ -119,13 +130,13 @@ int main(int argc, char **argv) {
     CHECK((int)t.units.size() == t.n);
     double least[4] = {1e18, 1e18, 1e18, 1e18};
     for (int r = 0; r < rounds; r++) {
-        double at = now();
+        double at = spent();
         // keygen
         std::vector<i64> s(t.n, 0);
         { Words w(1); std::vector<int> order(t.n); for (int i = 0; i < t.n; i++) order[i] = i;
           for (int i = 0; i < t.weight; i++) { int j = i + (int)w.uniform(t.n - i); std::swap(order[i], order[j]); s[order[i]] = w.next() & 1 ? -1 : 1; } }
         std::string sk; for (i64 c : s) sk.push_back((char)c);
-        least[0] = std::min(least[0], now() - at); at = now();
+        least[0] = std::min(least[0], spent() - at); at = spent();
         // pubkey
         Rows a, b;
         { Words w(2); Rows residues; for (auto &k : t.chain) { Row r(t.n); for (auto &c : r) c = w.uniform(k.q); residues.push_back(r); }
@@ -136,7 +147,7 @@ int main(int argc, char **argv) {
               for (int j = 0; j < t.n; j++) row[j] = ((q - mulm(a[i][j], sv[i][j], q)) % q + mulm(t.p, ev[i][j], q)) % q;
               b.push_back(row); } }
         std::string pk; put(pk, b); put(pk, a);
-        least[1] = std::min(least[1], now() - at); at = now();
+        least[1] = std::min(least[1], spent() - at); at = spent();
         // encrypt
         Rows c0, c1;
         { Words w(3); std::vector<i64> u(t.n), e0(t.n), e1(t.n);
@@ -150,7 +161,7 @@ int main(int argc, char **argv) {
                   r1[j] = (mulm(a[i][j], uv[i][j], q) + mulm(t.p, v1[i][j], q)) % q; }
               c0.push_back(r0); c1.push_back(r1); } }
         std::string ct; put(ct, c0); put(ct, c1);
-        least[2] = std::min(least[2], now() - at); at = now();
+        least[2] = std::min(least[2], spent() - at); at = spent();
         // decrypt
         Row slots(t.slots);
         { Rows sv = t.values(s), opened;
@@ -169,8 +180,11 @@ int main(int argc, char **argv) {
           // the value at eta^T(e) in Z_p, eta = -factor[0]: read as the last number of the numbers
           static u64 eta = 0; if (!eta) std::cin >> eta;
           Row powers(t.m); powers[0] = 1; for (int i = 1; i < t.m; i++) powers[i] = powers[i - 1] * eta % t.p;
-          for (int e = 0; e < t.slots; e++) { u64 v = 0; for (int i = 0; i < t.n; i++) v += plain[i] * powers[(u64)i * t.T[e] % t.m] % t.p; slots[e] = v % t.p; } }
-        least[3] = std::min(least[3], now() - at);
+          for (int e = 0; e < t.slots; e++) {
+              u64 v = 0; int at = 0;
+              for (int i = 0; i < t.n; i++) { v += plain[i] * powers[at]; at += t.T[e]; if (at >= t.m) at -= t.m; }
+              slots[e] = v % t.p; } }
+        least[3] = std::min(least[3], spent() - at);
         CHECK(slots == t.x);
         if (!r) { save(folder + "/k.sk", sk); save(folder + "/k.pk", pk); save(folder + "/c.ct", ct); }
     }
