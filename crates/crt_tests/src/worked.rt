@@ -4,7 +4,6 @@ ghost use Rattle.std.specs.Prelude.{◌≡◌, ◌≤◌, IfOk, length};
 use crate::rings::assert_unit;
 use cyclo_poly::Cyclo;
 use double_crt::{Dcrt, RingTables};
-use mod_ring::Zq;
 use moduli_table::{ModRow, Moduli};
 use std::alloc::Global;
 use std::process::Abort;
