@@ -10,6 +10,7 @@ pub mod RowText
 pub mod FileForms
 pub mod SecretFiles
 pub mod PublicFiles
+pub mod PublicKeys
 pub mod CipherFiles
 pub mod CipherSteps
 pub mod Loops

@@ -7,7 +7,7 @@ use Rattle.noise_bound.specs.Rounding.{IsFloating, exponent}
 use Rattle.residue_rows.specs.Rows.{AreRows}
 use Rattle.residue_rows.specs.Kept.{RingSetting, IsSetting, moduli_kept}
 use Rattle.scheme_laws.specs.Scheme.{SchemeSetting}
-use Rattle.scheme_laws.specs.Keys.{PublicKey, IsSecret}
+use Rattle.scheme_laws.specs.Keys.{PublicKey, IsSecret, IsPublicOf}
 use Rattle.scheme_laws.specs.Ciphers.{Cipher, IsCipher}
 use Rattle.he_files.specs.declared.headers.Header.{Header}
 use Rattle.he_files.specs.Header.{kind_byte, header_bytes, header_of}
@@ -64,6 +64,10 @@ pub record PublicsAre (t : RingSetting) (h : Header) : Type 0 where
 
 abbrev pub PublicLaw : Type 0
 PublicLaw = (t : RingSetting) (h : Header) → IsSetting t → AreNames h → PublicsAre t h
+
+-- the file of a public key of a secret is read as that key
+abbrev pub PublicKeyLaw : Type 0
+PublicKeyLaw = (t : RingSetting) (h : Header) → IsSetting t → AreNames h → (s : List ℤ) (key : PublicKey) → IsSecret t s → IsPublicOf t s key → public_of t (public_bytes t h key) (header_length h) ≡ Ok key
 
 -- a bound that a file can spell
 pub record IsSpelledBound (b : ℕ) : Type 0 where

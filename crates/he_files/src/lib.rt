@@ -20,6 +20,6 @@ mod secrets;
 pub use ciphers::{read_cipher, write_cipher};
 pub use faults::ReadFault;
 pub use headers::{Header, read_header};
-pub use laws::{law_cipher, law_header, law_public, law_secret};
+pub use laws::{law_cipher, law_header, law_public, law_public_key, law_secret};
 pub use publics::{read_public, write_public};
 pub use secrets::{read_secret, write_secret};

@@ -1,22 +1,18 @@
 -- The laws of the plain machine.
-use Rattle.std.proofs.Common.{◌≡◌, ℕ, List, [], ◌∷◌, ◌++◌, Option, Some, None, Result, Ok, Err, refl, sym, ap, subst}
+use Rattle.std.proofs.Common.{ℕ, List, [], ◌∷◌, Option, Some, None, Result, Ok, Err, sym, subst}
 use Rattle.std.specs.Prelude.{IfSome}
 use Rattle.std.specs.Option.{ok_or}
 use Rattle.shelf_core.specs.Files.{File}
-use Rattle.slot_array.specs.SlotsText.{slots_text}
 use Rattle.cli_machine.specs.declared.cause.Cause.{Cause}
 use Rattle.cli_machine.specs.declared.cause.Cause.TheVariants.{Words}
-use Rattle.cli_machine.specs.declared.cause.Status.{Status}
-use Rattle.cli_machine.specs.declared.cause.Status.TheVariants.{Done}
 use Rattle.cli_machine.specs.declared.command.Command.{Command}
-use Rattle.cli_machine.specs.declared.command.Command.TheVariants.{Decrypt}
-use Rattle.cli_machine.specs.Clauses.{Leaves, LeavesDone, Shows, PrintsAll, outcome_of}
+use Rattle.cli_machine.specs.Clauses.{LeavesDone, PrintsAll}
 use Rattle.cli_machine.specs.Commands.{command_of}
-use Rattle.cli_machine.specs.Effects.{Wanted, Prints}
+use Rattle.cli_machine.specs.Effects.{Wanted}
 use Rattle.cli_machine.specs.Machine.{◌>>=◌, command_on, decrypt_on, line_on}
 use Rattle.cli_machine.proofs.Chains.{On}
-use Rattle.plain_machine.specs.PlainState.{PlainState, nothing, after_words, after_line, stepped}
-use Rattle.plain_machine.specs.Carrying.{Carries, HoldsNoKeys, Past, IsHistory, reached}
+use Rattle.plain_machine.specs.PlainState.{PlainState, nothing, after_words, stepped}
+use Rattle.plain_machine.specs.Carrying.{Carries, Past, IsHistory, reached}
 use Rattle.plain_machine.specs.CarryingLaws.{EmptyLaw, CarryingLaw, HistoryLaw, DecryptsLaw, PrintsArray}
 use Rattle.plain_machine.proofs.CommandNames.{NamesKey, command_names}
 use Rattle.plain_machine.proofs.Keeping.{Keeps, command_keeps}

@@ -1,10 +1,10 @@
 -- The names of a key that is made are names.
 use Rattle.std.proofs.Common.{◌≡◌, ℕ, Bool, true, false, cond, List, [], ◌∷◌, Option, Some, None, refl, sym, subst}
-use Rattle.std.specs.Prelude.{⊤, IfSome, bytes_eq, codes}
+use Rattle.std.specs.Prelude.{IfSome, bytes_eq, codes}
 use Rattle.line_text.specs.Names.{IsName, name_of, SpellsItself}
 use Rattle.line_text.specs.Numbers.{number_of}
 use Rattle.cli_machine.specs.declared.command.Command.{Command}
-use Rattle.cli_machine.specs.declared.command.Command.TheVariants.{Clear, Summarise, MakeTable, KeyGen, PubKey, Encrypt, Decrypt, Noise}
+use Rattle.cli_machine.specs.declared.command.Command.TheVariants.{KeyGen}
 use Rattle.cli_machine.specs.Commands.{◌>>=◌, names_of, pair_of, clear_of, summarise_of, make_table_of, key_gen_of, pub_key_of, encrypt_of, decrypt_of, noise_of, command_of}
 
 -- the names of the table and of the key that is made

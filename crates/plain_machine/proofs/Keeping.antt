@@ -1,31 +1,26 @@
 -- A line that is done leaves files that carry the state that it makes.
-use Rattle.std.proofs.Common.{◌≡◌, ◌≢◌, ℕ, ◌<◌, ◌≤◌, Bool, true, false, cond, List, [], ◌∷◌, ◌++◌, length, Option, Some, None, MatchOption, Result, Ok, Err, ℤ, refl, sym, ◌∙◌, ap, subst, arith}
-use Rattle.line_text.specs.declared.kinds.FileKind.{FileKind}
+use Rattle.std.proofs.Common.{◌≡◌, ◌≢◌, ℕ, ◌<◌, List, [], ◌∷◌, ◌++◌, length, Option, Some, None, Ok, Err, ℤ, refl, sym, ap, subst}
 use Rattle.line_text.specs.declared.kinds.FileKind.TheVariants as kinds
 use Rattle.line_text.specs.declared.kinds.FileName.{FileName}
-use Rattle.line_text.specs.Names.{IsName}
 use Rattle.shelf_core.specs.Files.{File, bytes_of}
 use Rattle.slot_array.specs.Arrays.{Array, IsArray}
-use Rattle.slot_array.specs.SlotsText.{slots_of, slots_text}
-use Rattle.slot_factor.specs.Packing.{Packing}
 use Rattle.noise_bound.specs.Machine.{fresh, limit}
 use Rattle.scheme_laws.specs.Scheme.{IsScheme, SchemeSetting, sizes_of, top}
-use Rattle.scheme_laws.specs.Keys.{IsSecret, PublicKey, public_drawn, secret_drawn}
-use Rattle.scheme_laws.specs.Ciphers.{Cipher, decrypted, encryption_drawn}
+use Rattle.scheme_laws.specs.Keys.{PublicKey, public_drawn, secret_drawn}
+use Rattle.scheme_laws.specs.Ciphers.{Cipher, encryption_drawn}
 use Rattle.he_files.specs.declared.headers.Header.{Header}
 use Rattle.he_files.specs.Secret.{secret_of, secret_bytes}
 use Rattle.he_files.specs.PublicFile.{public_of, public_bytes}
 use Rattle.he_files.specs.CipherFile.{cipher_of_bytes, cipher_bytes}
 use Rattle.table_file.specs.Accepted.{accepted}
-use Rattle.cli_machine.specs.declared.cause.Cause.{Cause}
 use Rattle.cli_machine.specs.declared.cause.Cause.TheVariants.{NoFile, NoRoot, BadTable}
 use Rattle.cli_machine.specs.declared.command.Command.{Command}
 use Rattle.cli_machine.specs.declared.command.Command.TheVariants.{Clear, Summarise, MakeTable, KeyGen, PubKey, Encrypt, Decrypt, Noise}
 use Rattle.cli_machine.specs.Clauses.{LeavesDone}
-use Rattle.cli_machine.specs.Effects.{Wanted, Prints, Saves, SavesTable}
-use Rattle.cli_machine.specs.Machine.{◌>>=◌, or_else, file_of, loaded, free, table_on, program_on, arrays_on, array_on, matched, clear_on, summarise_on, template_on, make_table_on, seed_on, draws_of, chained_on, Chained, headed_on, Body, Opened, first_on, later_on, quiet, key_gen_on, pub_key_on, encrypt_on, decrypt_on, noise_on, command_on}
+use Rattle.cli_machine.specs.Effects.{Wanted}
+use Rattle.cli_machine.specs.Machine.{or_else, file_of, loaded, free, table_on, program_on, arrays_on, array_on, matched, clear_on, summarise_on, template_on, make_table_on, seed_on, draws_of, chained_on, Chained, headed_on, Body, first_on, later_on, quiet, key_gen_on, pub_key_on, encrypt_on, decrypt_on, noise_on, command_on}
 use Rattle.cli_machine.proofs.Chains.{free_is, holds_array, holds_chained, HoldsChained, on_bind, On, quiet_is}
-use Rattle.plain_machine.specs.PlainState.{Sealed, PlainState, with_name, input_of, sealed_by, after_command}
+use Rattle.plain_machine.specs.PlainState.{Sealed, PlainState, input_of, sealed_by, after_command}
 use Rattle.plain_machine.specs.Carrying.{HoldsScheme, scheme, HoldsSecret, CarriesSecret, CarriesPublic, CarriesCipher, Carries}
 use Rattle.plain_machine.proofs.CommandNames.{NamesKey}
 use Rattle.plain_machine.proofs.FreshBound.{fresh_spelled}

@@ -1,15 +1,14 @@
 -- What a `decrypt` prints is the array of its ciphertext.
-use Rattle.std.proofs.Common.{◌≡◌, ℕ, List, ◌++◌, Option, Some, None, Result, Ok, Err, ℤ, refl, sym, ◌∙◌, ap, subst}
+use Rattle.std.proofs.Common.{◌≡◌, ℕ, List, Option, Some, None, Ok, Err, ℤ, refl, sym, ◌∙◌, ap, subst}
 use Rattle.line_text.specs.declared.kinds.FileKind.TheVariants as kinds
 use Rattle.line_text.specs.declared.kinds.FileName.{FileName}
 use Rattle.shelf_core.specs.Files.{File, bytes_of}
 use Rattle.slot_array.specs.SlotsText.{slots_text}
 use Rattle.residue_rows.specs.Kept.{RingSetting}
-use Rattle.scheme_laws.specs.Ciphers.{Cipher, decrypted}
+use Rattle.scheme_laws.specs.Ciphers.{decrypted}
 use Rattle.he_files.specs.declared.headers.Header.{Header}
 use Rattle.he_files.specs.Secret.{secret_of}
 use Rattle.he_files.specs.CipherFile.{cipher_of_bytes}
-use Rattle.cli_machine.specs.declared.cause.Cause.{Cause}
 use Rattle.cli_machine.specs.declared.cause.Cause.TheVariants.{NoFile}
 use Rattle.cli_machine.specs.Effects.{Wanted, Prints}
 use Rattle.cli_machine.specs.Machine.{◌>>=◌, file_of, loaded, headed_on, Body, Opened, first_on, later_on, scheme_in, decrypt_on}

@@ -1,27 +1,21 @@
 -- What the machine reads of files that carry a state.
-use Rattle.std.proofs.Common.{◌≡◌, ℕ, suc, ◌+◌, ◌-◌, ◌≤◌, false, List, [], ◌∷◌, ◌++◌, length, map, Option, Some, None, Result, Ok, Err, ℤ, pos, refl, sym, ◌∙◌, ap, ap₂, subst, arith, append_assoc}
+use Rattle.std.proofs.Common.{◌≡◌, ℕ, List, ◌++◌, map, Some, Result, Ok, ℤ, refl, sym, ◌∙◌, ap, append_assoc}
 use Rattle.std.specs.Prelude.{IsSome}
 use Rattle.line_text.specs.declared.kinds.FileKind.{FileKind}
 use Rattle.line_text.specs.declared.kinds.FileKind.TheVariants as kinds
 use Rattle.shelf_core.specs.Files.{File, bytes_of}
-use Rattle.residue_rows.specs.Rows.{AreRows}
-use Rattle.residue_rows.specs.Kept.{RingSetting, IsSetting, moduli_kept}
-use Rattle.cyclotomic.specs.Cyclotomic.{IsElement, multiple}
-use Rattle.algebra.specs.Ring.{CommRing, whole_numbers}
-use Rattle.std.proofs.lemmas.List.{length-map}
-use Rattle.scheme_laws.specs.Scheme.{SchemeSetting, IsScheme, top, moduli_at, rows_at, ring_at}
-use Rattle.scheme_laws.specs.Keys.{PublicKey, IsSecret, IsPublicOf, public_part}
+use Rattle.residue_rows.specs.Kept.{RingSetting}
+use Rattle.scheme_laws.specs.Scheme.{IsScheme}
+use Rattle.scheme_laws.specs.Keys.{PublicKey}
 use Rattle.scheme_laws.specs.Ciphers.{Cipher}
-use Rattle.scheme_laws.proofs.LevelRows.{top_fits, keep, Level, held, rows_of_held, at}
 use Rattle.he_files.specs.declared.headers.Header.{Header}
 use Rattle.he_files.specs.Header.{header_bytes, header_of, kind_byte}
-use Rattle.he_files.specs.FileLaws.{AreNames, ArePublicRows, header_length}
+use Rattle.he_files.specs.FileLaws.{AreNames, header_length}
 use Rattle.he_files.specs.Secret.{secret_of, secret_bytes, entry_byte}
 use Rattle.he_files.specs.PublicFile.{public_of, public_bytes, over_chain}
 use Rattle.he_files.specs.CipherFile.{cipher_of_bytes, cipher_bytes, level, bound, at_level}
-use Rattle.table_file.specs.Setting.{Setting, scheme_of}
-use Rattle.cli_machine.specs.declared.cause.Cause.{Cause}
-use Rattle.cli_machine.specs.Machine.{◌>>=◌, or_else, bad_file, file_of, loaded, table_on, chained_on, Chained, Headed, headed_on, Body, Opened, first_on, same_names, later_on}
+use Rattle.table_file.specs.Setting.{Setting}
+use Rattle.cli_machine.specs.Machine.{file_of, loaded, table_on, chained_on, Chained, headed_on, Body, first_on, same_names, later_on}
 use Rattle.cli_machine.specs.Plain.{HoldsTable}
 use Rattle.cli_machine.proofs.Chains.{bind_ok, read_of, same_names_is}
 use Rattle.plain_machine.specs.PlainState.{Sealed}
@@ -70,38 +64,6 @@ pub chained_read : (header : Header) (files : List File) (table : HoldsScheme he
 unfolding chained_on
 chained_read header files table = rw (table_read header.table table.setting files table.holds, table.not_plain) refl
 
--- the rows of a public key
-module _ (ring : RingSetting) (S : IsSetting ring) (s : List ℤ) (s_is : IsSecret ring s) (key : PublicKey) (P : IsPublicOf ring s key) where
-  fits : suc (top ring) ≤ length ring.moduli.chain
-  fits = top_fits ring S
-
-  abbrev Q : CommRing
-  Q = Level ring S (top ring) fits
-
-  abbrev p : ℤ
-  p = pos ring.moduli.p
-
-  abbrev whole : (a : List ℤ) → IsElement ring.moduli.m a → Q.Carrier
-  whole a e = at ring S (top ring) fits a e
-
-  abbrev b : Q.Carrier
-  b = Q.add (Q.neg (Q.mul (held ring S (top ring) fits key.a P.rows_in) (whole s s_is.len))) (whole (multiple p P.e) (length-map P.e (whole_numbers.mul p) ∙ P.error.long))
-
-  b_is : key.b ≡ b.0
-  b_is = P.equation ∙ ap ((ring_at ring (top ring)).add ((ring_at ring (top ring)).neg ((ring_at ring (top ring)).mul key.a (rows_at ring (top ring) s)))) (sym ((keep ring S (top ring) fits).multiples p P.e))
-
-  b_in : AreRows ring.moduli.m (moduli_at ring (top ring)) key.b
-  b_in = subst (AreRows ring.moduli.m (moduli_at ring (top ring))) (sym b_is) (rows_of_held ring S (top ring) fits b)
-
-  over : (rows : List (List ℕ)) → AreRows ring.moduli.m (moduli_at ring (top ring)) rows → AreRows ring.moduli.m (moduli_kept ring (length ring.moduli.chain) false) rows
-  over rows is =
-      let P : ℕ → Type 0 = λ n. AreRows ring.moduli.m (moduli_kept ring n false) rows in
-      let all : suc (top ring) ≡ length ring.moduli.chain = omega (arith, fits) in
-      subst P all is
-
-  pub public_rows : ArePublicRows ring key
-  public_rows = record { b_in = over key.b b_in; a_in = over key.a P.rows_in }
-
 -- ---- what the machine reads
 abbrev found : {A : Type 0} → A → Result A ℕ
 found x = Ok x
@@ -141,7 +103,7 @@ module _ (laws : LowerLaws) where
       → first_on public_of (file_of kinds.Public name) files ≡ Ok (record { header = header; table = chained_of public.secret.table; value = public.key })
   public_read name header files public =
       first_read public_of kinds.Public public_known name header (public_bytes public.secret.table.ring header public.key) _ files public.secret.table public.key public.spelled (public_parts public.secret.table.ring header public.key) public.secret.names
-      ((laws.public public.secret.table.ring header (scheme_is public.secret.table).setting public.secret.names).again public.key (public_rows public.secret.table.ring (scheme_is public.secret.table).setting public.secret.secret public.secret.is_secret public.key public.of_secret))
+      (laws.public public.secret.table.ring header (scheme_is public.secret.table).setting public.secret.names public.secret.secret public.key public.secret.is_secret public.of_secret)
 
   -- a ciphertext that is read behind another file has its names, and under the same table it is the one that is held
   pub cipher_read : (name : List ℕ) (sealed : Sealed) (files : List File) (carried : CarriesCipher name sealed files) (want : Header) (ring : RingSetting) (c : Cipher)

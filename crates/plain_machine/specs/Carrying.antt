@@ -17,7 +17,7 @@ use Rattle.cli_machine.specs.declared.cause.Cause.{Cause}
 use Rattle.cli_machine.specs.Clauses.{Leaves}
 use Rattle.cli_machine.specs.Machine.{file_of, line_on}
 use Rattle.cli_machine.specs.Plain.{HoldsTable}
-use Rattle.plain_machine.specs.PlainState.{Sealed, PlainState, nothing, after_line}
+use Rattle.plain_machine.specs.PlainState.{Sealed, PlainState, after_line}
 
 -- the shelf holds the accepted table that a pair names, and it is not plain
 pub record HoldsScheme (header : Header) (files : List File) : Type 0 where

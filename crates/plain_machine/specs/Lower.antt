@@ -12,7 +12,7 @@ use Rattle.noise_bound.specs.Rounding.{IsFloating, IsUp, up, down, exponent}
 use Rattle.noise_bound.specs.Value.{value}
 use Rattle.noise_bound.specs.declared.rounding.Bound.{Bound}
 use Rattle.scheme_laws.specs.SchemeLaws.{DrawsLaw, DrawnStands, DecryptsLaw}
-use Rattle.he_files.specs.FileLaws.{HeaderLaw, SecretLaw, PublicLaw, CipherLaw}
+use Rattle.he_files.specs.FileLaws.{HeaderLaw, SecretLaw, PublicKeyLaw, CipherLaw}
 use Rattle.table_file.specs.SchemeLaw.{AcceptedIsScheme}
 
 -- a number that is rounded up, and the one form of a bound
@@ -40,6 +40,6 @@ pub record LowerLaws : Type 0 where
   pub decrypts : DecryptsLaw
   pub header : HeaderLaw
   pub secret : SecretLaw
-  pub public : PublicLaw
+  pub public : PublicKeyLaw
   pub cipher : CipherLaw
   pub accepted : AcceptedIsScheme

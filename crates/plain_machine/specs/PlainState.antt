@@ -1,6 +1,6 @@
 -- The plain machine: its names of keys hold pairs of names, and its names of ciphertexts hold such a pair and an array of field
 -- elements. Its texts are those of the shelf. It has no ring, modulus, draw, level, noise or key material.
-use Rattle.std.specs.Prelude.{ℕ, List, ◌∷◌, Option, Some, None, option_map, option_and_then, Result, Ok, Err, bytes_eq, if◌then◌else◌}
+use Rattle.std.specs.Prelude.{ℕ, List, Option, Some, None, option_map, option_and_then, Result, Ok, Err, bytes_eq, if◌then◌else◌}
 use Rattle.std.specs.Result.{result_ok}
 use Rattle.shelf_core.specs.Files.{File}
 use Rattle.slot_array.specs.Arrays.{Array}

@@ -3,7 +3,7 @@ ghost use Rattle.plain_machine.specs.CarryingLaws.{EmptyLaw, CarryingLaw, Histor
 ghost use Rattle.plain_machine.specs.Lower.{LowerLaws};
 
 use cyclotomic::polynomials::law_degree_is_units;
-use he_files::{law_cipher, law_header, law_public, law_secret};
+use he_files::{law_cipher, law_header, law_public_key, law_secret};
 use line_text::law_names;
 use noise_bound::{law_bound_of, law_form, law_rounding};
 use scheme_laws::scheme::{law_decrypts as law_ciphers_decrypt, law_drawn_stands, law_draws};
@@ -54,7 +54,7 @@ fn lower()
     law_ciphers_decrypt();
     law_header();
     law_secret();
-    law_public();
+    law_public_key();
     law_cipher();
     law_accepted();
 }
