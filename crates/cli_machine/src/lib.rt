@@ -16,4 +16,4 @@ pub use cause::{Cause, Status};
 pub use command::{Command, command_of};
 pub use effect::{Effect, Text};
 pub use names::Names;
-pub use reports::{number, put_bound, report};
+pub use reports::{number, report};

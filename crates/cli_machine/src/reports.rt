@@ -9,7 +9,7 @@ use he_files::Header;
 use line_text::{FileName, TableKey, put_number};
 use noise_bound::Bound;
 use std::alloc::{AllocError, Global};
-use table_file::TableFault;
+use table_file::{TableFault, put_bound};
 
 /// The report of a status: nothing where all is done, else `stopped`, the number of the line and
 /// the cause with its fields.
@@ -120,17 +120,6 @@ fn put_bounds(
     put_bound(text, bound)?;
     text.extend_from_slice(b" ")?;
     put_bound(text, limit)
-}
-
-/// Appends a bound: its mantissa, and its power of two where this is not 1, as `3057123754*2^49`.
-pub fn put_bound(text: &mut Vec<u8>, bound: Bound) -> Result<(), AllocError>
-    ensures { OnOk result (text.new.items ≡ text.old.items ++ text_of bound) }
-{
-    put_number(text, u64::from(bound.man))?;
-    if bound.exp == 0 {
-        return Ok(());
-    }
-    put_numbered(text, b"*2^", u64::from(bound.exp))
 }
 
 /// Appends a word and a number.

@@ -1,4 +1,3 @@
-pub mod BoundTexts
 pub mod ClauseLaws
 pub mod Headline
 pub mod Making

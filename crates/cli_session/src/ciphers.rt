@@ -1,5 +1,5 @@
 //! The commands `encrypt`, `decrypt` and `noise`.
-ghost use Rattle.std.specs.Prelude.{◌≡◌, ◌++◌, ◌<◌, false, IfErr, IfOk, IsTrue, Ok, Err, OnOk};
+ghost use Rattle.std.specs.Prelude.{◌≡◌, ◌<◌, false, IfErr, IfOk, IsTrue, Ok, Err, OnOk};
 ghost use Rattle.cipher_core.specs.Shown.{cipher_of, setting_of, ArePartsUnder};
 ghost use Rattle.he_files.specs.CipherFile.{cipher_bytes};
 ghost use Rattle.key_switch.specs.Shown.{key_of, IsPublicUnder};
@@ -8,7 +8,6 @@ ghost use Rattle.scheme_laws.specs.Ciphers.{decrypted, encryption_drawn};
 ghost use Rattle.scheme_laws.specs.Scheme.{sizes_of, IsScheme};
 ghost use Rattle.slot_array.specs.Arrays.{IsArray};
 ghost use Rattle.slot_array.specs.SlotsText.{slots_text};
-ghost use Rattle.table_file.specs.Summary.{bounded};
 ghost use Rattle.cli_machine.specs.Clauses.{faulted, is_excused, is_shelf_fault, Counts, Gives, IsFree, IsOfReading};
 ghost use Rattle.cli_machine.specs.Effects.{left_by};
 ghost use Rattle.cli_machine.specs.Machine.{decrypt_on, draws_of, encrypt_on, noise_on, noise_text, quiet};
@@ -18,16 +17,17 @@ use crate::found::Opened;
 use crate::opening::{first_cipher, first_public, first_secret, later_cipher};
 use crate::reading::{array, free, seed};
 use cipher_core::{Cipher, CipherFault, Scheme};
-use cli_machine::{Cause, Effect, Text, put_bound};
+use cli_machine::{Cause, Effect, Text};
 use cyclotomic::polynomials::law_degree_is_units;
 use draw_stream::Draws;
 use he_files::write_cipher;
 use key_switch::Public;
 use line_text::{FileKind, FileName, Name, put_number};
-use noise_bound::{Bound, law_bound_of, law_form};
+use noise_bound::law_bound_of;
 use shelf_core::Shelf;
 use slot_array::{SlotArray, print_slots};
 use std::alloc::{AllocError, Global};
+use table_file::put_bounded;
 
 /// `encrypt K C SEED STREAM X`.
 #[tactic(auto, unfolding(cli_machine::specs::Machine::encrypt_on))]
@@ -170,14 +170,4 @@ fn noise_line(alloc: Global, scheme: &Scheme, cipher: &Cipher) -> Result<Vec<u8>
     put_bounded(&mut text, b" limit ", scheme.bounds.limit(cipher.level))?;
     text.push(b'\n')?;
     Ok(text)
-}
-
-/// Appends a word and a bound.
-#[tactic(auto, using(crate::proofs::BoundTexts::put_two))]
-fn put_bounded(text: &mut Vec<u8>, word: &[u8], bound: Bound) -> Result<(), AllocError>
-    ensures { OnOk result (text.new.items ≡ text.old.items ++ bounded word.now (value bound)) }
-{
-    law_form();
-    text.extend_from_slice(word)?;
-    put_bound(text, bound)
 }

@@ -1,3 +1,4 @@
+pub mod BoundTexts
 pub mod Lines
 pub mod Checks
 pub mod Bounding

@@ -11,5 +11,5 @@ mod tables;
 pub use faults::TableFault;
 pub use laws::law_accepted;
 pub use reading::read_table;
-pub use summaries::summary;
+pub use summaries::{put_bound, put_bounded, summary};
 pub use tables::Table;

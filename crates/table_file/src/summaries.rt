@@ -1,10 +1,11 @@
 //! The printed summary of a table.
 ghost use Rattle.std.specs.Prelude.{◌≡◌, ◌++◌, ◌<◌, IfOk, OnOk, length};
 ghost use Rattle.hyper_cube.specs.Torus.{Torus};
+ghost use Rattle.noise_bound.specs.Text.{text_of};
 ghost use Rattle.noise_bound.specs.Value.{value};
 ghost use Rattle.scheme_laws.specs.Scheme.{sizes_of};
 ghost use Rattle.table_file.specs.Shown.{setting_of};
-ghost use Rattle.table_file.specs.Summary.{bound_text, bounded, bounds_line, chain_line, chain_lines, dimension_line, dimension_lines, head_line, height_line, labelled, limit_line, limit_lines, newline, quality, summary_of};
+ghost use Rattle.table_file.specs.Summary.{bounded, bounds_line, chain_line, chain_lines, dimension_line, dimension_lines, head_line, height_line, labelled, limit_line, limit_lines, newline, quality, summary_of};
 
 use crate::tables::Table;
 use cipher_core::Scheme;
@@ -12,7 +13,7 @@ use cyclo_poly::Cyclo;
 use double_crt::RingTables;
 use hyper_cube::Cube;
 use line_text::put_number;
-use noise_bound::{Bound, BoundTable};
+use noise_bound::{Bound, BoundTable, law_form};
 use slot_factor::Slots;
 use std::alloc::{AllocError, Global};
 
@@ -41,23 +42,23 @@ fn put_labelled(text: &mut Vec<u8>, word: &[u8], n: u64) -> Result<(), AllocErro
     put_number(text, n)
 }
 
-/// Appends a bound: its mantissa, and its power of two where this is not 1.
-#[tactic(auto, unfolding(crate::specs::Summary::bound_text))]
-fn put_bound(text: &mut Vec<u8>, bound: Bound) -> Result<(), AllocError>
-    ensures { OnOk result (text.new.items ≡ text.old.items ++ bound_text (value bound)) }
+/// Appends a bound: its mantissa, and its power of two where this is not 1, as `3057123754*2^49`.
+pub fn put_bound(text: &mut Vec<u8>, bound: Bound) -> Result<(), AllocError>
+    ensures { OnOk result (text.new.items ≡ text.old.items ++ text_of bound) }
 {
     put_number(text, u64::from(bound.man))?;
     if bound.exp == 0 {
         return Ok(());
     }
-    put_labelled(text, b"*2^", u64::from(bound.exp))?;
-    Ok(())
+    put_labelled(text, b"*2^", u64::from(bound.exp))
 }
 
 /// Appends a word and a bound.
-fn put_bounded(text: &mut Vec<u8>, word: &[u8], bound: Bound) -> Result<(), AllocError>
+#[tactic(auto, using(crate::proofs::BoundTexts::put_two))]
+pub fn put_bounded(text: &mut Vec<u8>, word: &[u8], bound: Bound) -> Result<(), AllocError>
     ensures { OnOk result (text.new.items ≡ text.old.items ++ bounded word.now (value bound)) }
 {
+    law_form();
     text.extend_from_slice(word)?;
     put_bound(text, bound)
 }
