@@ -1,6 +1,6 @@
 //! Files of ciphertexts.
 use crate::damage::Change::{Add, Byte, Cut, Number};
-use crate::damage::{assert_read, assert_refused, changed};
+use crate::damage::{Change, assert_read, assert_refused, changed};
 use crate::files::{cipher_file, cipher_in, tables};
 use he_files::{law_cipher, read_header, write_cipher};
 use line_text::FileKind;
@@ -73,6 +73,19 @@ fn ciphertexts_of_lower_levels(rt: HostRuntime) -> Result<(), Fail> {
     Ok(())
 }
 
+static HEADERS_OF_CIPHERTEXTS: [(Change, u64); 10] = [
+    (Byte(3, b'X'), 0),
+    (Byte(4, 1), 4),
+    (Byte(4, 2), 4),
+    (Byte(4, 3), 4),
+    (Byte(5, 0), 5),
+    (Byte(6, 65), 6),
+    (Byte(7, b'\n'), 7),
+    (Byte(8, 0), 8),
+    (Byte(9, b'.'), 9),
+    (Cut(8), 8),
+];
+
 #[test]
 fn headers_of_ciphertexts(rt: HostRuntime) -> Result<(), Fail> {
     let file = cipher_file(rt.alloc())?;
@@ -80,48 +93,43 @@ fn headers_of_ciphertexts(rt: HostRuntime) -> Result<(), Fail> {
         &rt,
         FileKind::Cipher,
         file.as_slice(),
-        &[
-            (Byte(3, b'X'), 0),
-            (Byte(4, 1), 4),
-            (Byte(4, 2), 4),
-            (Byte(4, 3), 4),
-            (Byte(5, 0), 5),
-            (Byte(6, 65), 6),
-            (Byte(7, b'\n'), 7),
-            (Byte(8, 0), 8),
-            (Byte(9, b'.'), 9),
-            (Cut(8), 8),
-        ],
+        &HEADERS_OF_CIPHERTEXTS,
     )
 }
+
+static LEVELS_AND_BOUNDS: [(Change, u64); 13] = [
+    // above the top level
+    (Byte(10, 3), 10),
+    (Byte(10, 255), 10),
+    (Byte(11, 1), 10),
+    (Byte(13, 128), 10),
+    // numbers of another modulus, and numbers after the last one of a lower level
+    (Byte(10, 1), 118),
+    (Byte(10, 0), 118),
+    // bounds that are not normal
+    (Byte(18, 1), 18),
+    (Number(14, 1 << 32), 18),
+    (Number(14, (1 << 32) + (1 << 31) - 1), 18),
+    (Number(14, (4096 << 32) + (1 << 31)), 18),
+    (Number(14, (4096 << 32) + 7), 18),
+    (Number(14, u64::MAX), 18),
+    (Byte(21, 1), 18),
+];
 
 #[test]
 fn levels_and_bounds(rt: HostRuntime) -> Result<(), Fail> {
     let file = cipher_file(rt.alloc())?;
-    assert_refused(
-        &rt,
-        FileKind::Cipher,
-        file.as_slice(),
-        &[
-            // above the top level
-            (Byte(10, 3), 10),
-            (Byte(10, 255), 10),
-            (Byte(11, 1), 10),
-            (Byte(13, 128), 10),
-            // numbers of another modulus, and numbers after the last one of a lower level
-            (Byte(10, 1), 118),
-            (Byte(10, 0), 118),
-            // bounds that are not normal
-            (Byte(18, 1), 18),
-            (Number(14, 1 << 32), 18),
-            (Number(14, (1 << 32) + (1 << 31) - 1), 18),
-            (Number(14, (4096 << 32) + (1 << 31)), 18),
-            (Number(14, (4096 << 32) + 7), 18),
-            (Number(14, u64::MAX), 18),
-            (Byte(21, 1), 18),
-        ],
-    )
+    assert_refused(&rt, FileKind::Cipher, file.as_slice(), &LEVELS_AND_BOUNDS)
 }
+
+static BOUNDS_AND_RESIDUES_THAT_ARE_ALLOWED: [Change; 6] = [
+    Number(14, 0),
+    Number(14, (1 << 32) - 1),
+    Number(14, (1 << 32) + (1 << 31)),
+    Number(14, (4095 << 32) + (1 << 31)),
+    Number(22, 469762048),
+    Number(302, 998244352),
+];
 
 #[test]
 fn bounds_and_residues_that_are_allowed(rt: HostRuntime) -> Result<(), Fail> {
@@ -130,16 +138,22 @@ fn bounds_and_residues_that_are_allowed(rt: HostRuntime) -> Result<(), Fail> {
         &rt,
         FileKind::Cipher,
         file.as_slice(),
-        &[
-            Number(14, 0),
-            Number(14, (1 << 32) - 1),
-            Number(14, (1 << 32) + (1 << 31)),
-            Number(14, (4095 << 32) + (1 << 31)),
-            Number(22, 469762048),
-            Number(302, 998244352),
-        ],
+        &BOUNDS_AND_RESIDUES_THAT_ARE_ALLOWED,
     )
 }
+
+static RESIDUES_OF_THE_MODULUS: [(Change, u64); 10] = [
+    (Number(22, 469762049), 22),
+    (Number(62, 469762050), 62),
+    (Number(70, 7340033), 70),
+    (Number(118, 998244353), 118),
+    (Number(158, u64::MAX), 158),
+    (Number(166, 469762049), 166),
+    (Number(214, 7340033), 214),
+    (Number(302, 998244353), 302),
+    (Byte(309, 64), 302),
+    (Add(0), 310),
+];
 
 #[test]
 fn residues_of_the_modulus(rt: HostRuntime) -> Result<(), Fail> {
@@ -148,20 +162,19 @@ fn residues_of_the_modulus(rt: HostRuntime) -> Result<(), Fail> {
         &rt,
         FileKind::Cipher,
         file.as_slice(),
-        &[
-            (Number(22, 469762049), 22),
-            (Number(62, 469762050), 62),
-            (Number(70, 7340033), 70),
-            (Number(118, 998244353), 118),
-            (Number(158, u64::MAX), 158),
-            (Number(166, 469762049), 166),
-            (Number(214, 7340033), 214),
-            (Number(302, 998244353), 302),
-            (Byte(309, 64), 302),
-            (Add(0), 310),
-        ],
+        &RESIDUES_OF_THE_MODULUS,
     )
 }
+
+static CIPHERTEXTS_THAT_ARE_CUT: [(Change, u64); 7] = [
+    (Cut(10), 10),
+    (Cut(11), 10),
+    (Cut(14), 14),
+    (Cut(15), 14),
+    (Cut(18), 18),
+    (Cut(19), 18),
+    (Cut(21), 18),
+];
 
 #[test]
 fn ciphertexts_that_are_cut(rt: HostRuntime) -> Result<(), Fail> {
@@ -170,15 +183,7 @@ fn ciphertexts_that_are_cut(rt: HostRuntime) -> Result<(), Fail> {
         &rt,
         FileKind::Cipher,
         file.as_slice(),
-        &[
-            (Cut(10), 10),
-            (Cut(11), 10),
-            (Cut(14), 14),
-            (Cut(15), 14),
-            (Cut(18), 18),
-            (Cut(19), 18),
-            (Cut(21), 18),
-        ],
+        &CIPHERTEXTS_THAT_ARE_CUT,
     )
 }
 

@@ -1,6 +1,6 @@
 //! Files of public keys.
 use crate::damage::Change::{Add, Byte, Cut, Number};
-use crate::damage::{assert_read, assert_refused};
+use crate::damage::{Change, assert_read, assert_refused};
 use crate::files::{public_file, public_in, tables};
 use he_files::{law_public, read_header, write_public};
 use line_text::FileKind;
@@ -45,6 +45,19 @@ fn residues_of_a_public_key(rt: HostRuntime) -> Result<(), Fail> {
     Ok(())
 }
 
+static HEADERS_OF_PUBLIC_KEYS: [(Change, u64); 10] = [
+    (Byte(3, b'X'), 0),
+    (Byte(4, 1), 4),
+    (Byte(4, 4), 4),
+    (Byte(5, 3), 5),
+    (Byte(6, 0), 6),
+    (Byte(7, b'/'), 7),
+    (Byte(8, 65), 8),
+    (Byte(9, 0), 9),
+    (Cut(9), 9),
+    (Add(0), 298),
+];
+
 #[test]
 fn headers_of_public_keys(rt: HostRuntime) -> Result<(), Fail> {
     let file = public_file(rt.alloc())?;
@@ -52,20 +65,18 @@ fn headers_of_public_keys(rt: HostRuntime) -> Result<(), Fail> {
         &rt,
         FileKind::Public,
         file.as_slice(),
-        &[
-            (Byte(3, b'X'), 0),
-            (Byte(4, 1), 4),
-            (Byte(4, 4), 4),
-            (Byte(5, 3), 5),
-            (Byte(6, 0), 6),
-            (Byte(7, b'/'), 7),
-            (Byte(8, 65), 8),
-            (Byte(9, 0), 9),
-            (Cut(9), 9),
-            (Add(0), 298),
-        ],
+        &HEADERS_OF_PUBLIC_KEYS,
     )
 }
+
+static RESIDUES_THAT_ARE_ALLOWED: [Change; 6] = [
+    Number(10, 0),
+    Number(10, 469762048),
+    Number(58, 7340032),
+    Number(106, 998244352),
+    Number(154, 469762048),
+    Number(290, 998244352),
+];
 
 #[test]
 fn residues_that_are_allowed(rt: HostRuntime) -> Result<(), Fail> {
@@ -74,16 +85,23 @@ fn residues_that_are_allowed(rt: HostRuntime) -> Result<(), Fail> {
         &rt,
         FileKind::Public,
         file.as_slice(),
-        &[
-            Number(10, 0),
-            Number(10, 469762048),
-            Number(58, 7340032),
-            Number(106, 998244352),
-            Number(154, 469762048),
-            Number(290, 998244352),
-        ],
+        &RESIDUES_THAT_ARE_ALLOWED,
     )
 }
+
+static RESIDUES_OF_THE_MODULUS: [(Change, u64); 11] = [
+    (Number(10, 469762049), 10),
+    (Number(50, 469762049), 50),
+    (Number(58, 7340033), 58),
+    (Number(98, 7340034), 98),
+    (Number(106, 998244353), 106),
+    (Number(146, u64::MAX), 146),
+    (Number(154, 469762049), 154),
+    (Number(202, 7340033), 202),
+    (Number(290, 998244353), 290),
+    (Byte(17, 1), 10),
+    (Byte(297, 128), 290),
+];
 
 #[test]
 fn residues_of_the_modulus(rt: HostRuntime) -> Result<(), Fail> {
@@ -92,19 +110,7 @@ fn residues_of_the_modulus(rt: HostRuntime) -> Result<(), Fail> {
         &rt,
         FileKind::Public,
         file.as_slice(),
-        &[
-            (Number(10, 469762049), 10),
-            (Number(50, 469762049), 50),
-            (Number(58, 7340033), 58),
-            (Number(98, 7340034), 98),
-            (Number(106, 998244353), 106),
-            (Number(146, u64::MAX), 146),
-            (Number(154, 469762049), 154),
-            (Number(202, 7340033), 202),
-            (Number(290, 998244353), 290),
-            (Byte(17, 1), 10),
-            (Byte(297, 128), 290),
-        ],
+        &RESIDUES_OF_THE_MODULUS,
     )
 }
 
