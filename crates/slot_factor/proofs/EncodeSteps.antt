@@ -1,16 +1,14 @@
 -- Steps towards the polynomial that has given slots.
-use Rattle.std.proofs.Common.{◌≡◌, ℕ, zero, suc, ◌+◌, ◌-◌, ◌<◌, ◌≤◌, List, [], ◌∷◌, map, length, get_or, replicate, pos, refl, sym, ap, ap₂, subst, ◌∙◌, arith}
+use Rattle.std.proofs.Common.{◌≡◌, ℕ, zero, suc, ◌+◌, ◌<◌, List, [], ◌∷◌, map, length, get_or, replicate, pos, refl, sym, ap, ap₂, ◌∙◌, arith}
 use Rattle.std.specs.Prelude.{ℤ}
 use Rattle.std.proofs.Math.Numerals.{add-one}
 use Rattle.algebra.specs.Ring.{residues}
 use Rattle.algebra.specs.Range.{total, adds}
 use Rattle.algebra.specs.Poly.{times}
 use Rattle.algebra.specs.Whole.{residue}
-use Rattle.algebra.proofs.Lists.{length-times}
 use Rattle.cyclotomic.specs.Cyclotomic.{R, fold, substituted}
 use Rattle.hyper_cube.specs.Torus.{Torus, slot_count, T_of, index}
 use Rattle.ext_field.specs.Element.{Extension, IsElement}
-use Rattle.ext_field.proofs.Rows.{element_long, element_short}
 use Rattle.slot_array.specs.Arrays.{Array, IsArray}
 use Rattle.slot_laws.specs.Slots.{balanced_row, inverse_modulo, lifted, eps, placed, encode}
 use Rattle.slot_laws.specs.Checks.{IsPacking, residue_row}
@@ -51,18 +49,6 @@ module _ (f : Extension) (c : Torus) (P : IsPacking f c) where
 
   pub array_element : (x : Array) (j : ℕ) → IsArray f c x → j < slot_count c → IsElement f (get_or x j [])
   array_element x j A l = A.elements j [] (omega (arith, A.long, l))
-
-  pub product_few : (x : Array) (j q : ℕ) (y u r : List ℕ) → IsArray f c x → j < slot_count c → y ≡ get_or x j [] → 0 < length u → length u ≤ 65536 → r ≡ times (residues q) y u → length r ≤ 131074
-  product_few x j q y u r A l y_is some few r_is = omega (arith, few, short, ap length r_is, length-times (residues q) y u (omega (arith, long, P.extension.factor.degree_low)) some)
-    where
-      h : IsElement f y
-      h = subst (IsElement f) (sym y_is) (array_element x j A l)
-
-      long : length y ≡ length f.factor - 1
-      long = element_long f y h
-
-      short : length y ≤ 64
-      short = element_short f y P.extension.factor h
 
   pub zeros_start : (n : ℕ) (x : Array) (zs : List ℕ) → zs ≡ replicate n 0 → residue_row f c (fold c.m (map pos zs)) ≡ residue_row f c (total (adds (R c.m)) 0 (λ j. placed f c (lifted f c (get_or x j [])) (index c.dimensions j)))
   zeros_start n x zs zs_is = ap (λ z. residue_row f c (fold c.m (map pos z))) zs_is ∙ fold_zeros f.p c.m p_pos m_pos n

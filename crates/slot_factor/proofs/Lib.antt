@@ -1,5 +1,6 @@
 pub mod RowSteps
 pub mod PowerSteps
+pub mod TraceSteps
 pub mod UnitSteps
 pub mod CheckSteps
 pub mod FaultSteps

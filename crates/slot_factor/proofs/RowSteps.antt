@@ -15,6 +15,7 @@ use Rattle.algebra.specs.Whole.{residue}
 use Rattle.algebra.proofs.HeldLists.{all_from, all_to}
 use Rattle.algebra.proofs.HeldValues.{held_coeff-times_is}
 use Rattle.algebra.proofs.Lists.{same_list, length-times}
+use Rattle.algebra.proofs.Ranges.{total_units, count_laws}
 use Rattle.algebra.proofs.Residues.{residue_laws}
 use Rattle.cyclotomic.specs.Cyclotomic.{R, phi, degree, fold, substituted}
 use Rattle.cyclotomic.proofs.RingR.{fold_element}
@@ -52,15 +53,12 @@ term_more a b i j s t d e l k t_is s_is =
     ∙ ap₂ (λ x y. x + y) s_is (ap₂ (λ x y. x * y) (get_or_default_zero a j d l) (get_or_default_zero b (i - j) e k))
     ∙ ap (λ n. total counts n (λ t. get_or a t 0 * get_or b (i - t) 0)) (sym (add-one j))
 
-pub term_none : (a b : List ℕ) (i j s t : ℕ) → length b ≤ i - j → t ≡ s → s ≡ total counts j (λ t. get_or a t 0 * get_or b (i - t) 0) → t ≡ total counts (j + 1) (λ t. get_or a t 0 * get_or b (i - t) 0)
-term_none a b i j s t k t_is s_is =
-    t_is
-    ∙ s_is
-    ∙ sym (ap (λ x. total counts j (λ t. get_or a t 0 * get_or b (i - t) 0) + get_or a j 0 * x) (get_or_past b (i - j) 0 k) ∙ nothing (total counts j (λ t. get_or a t 0 * get_or b (i - t) 0)) (get_or a j 0))
-    ∙ ap (λ n. total counts n (λ t. get_or a t 0 * get_or b (i - t) 0)) (sym (add-one j))
+-- before the first place that counts
+pub terms_before : (a b : List ℕ) (i k : ℕ) → k ≡ i + 1 - length b → 0 ≡ total counts k (λ t. get_or a t 0 * get_or b (i - t) 0)
+terms_before a b i k k_is = sym (total_units counts count_laws k (λ t. get_or a t 0 * get_or b (i - t) 0) (λ t l. ap (λ x. get_or a t 0 * x) (get_or_past b (i - t) 0 (omega (arith, k_is, l))) ∙ nothing (get_or a t 0)))
   where
-    nothing : (x y : ℕ) → x + y * 0 ≡ x
-    nothing x y = omega arith
+    nothing : (y : ℕ) → y * 0 ≡ 0
+    nothing y = omega arith
 
 pub product_small : (q x y : ℕ) → q < 2 ^ 17 → x < q → y < q → x * y ≤ 2 ^ 34
 product_small q x y h k l = omega (arith, mul-le-mul (the_low x k) (the_low y l))
@@ -117,11 +115,22 @@ pub product_is : (q : ℕ) (a b xs : List ℕ) (n : ℕ) → 0 < length a → 0 
 product_is q a b xs n ka kb n_is h = filled_is q (times (residues q) a b) xs n (n_is ∙ sym (length-times (residues q) a b ka kb)) h
 
 -- ---- places
-pub place_more : (q m : ℕ) (q_pos : 0 < q) (m_pos : 0 < m) (L : List ℕ) (S : List ℤ) (k : ℕ) (a : List ℕ) (i r x d : ℕ) → length L ≡ m → i < length a → x ≡ get_or L ((i * k) % m) x → (i * k) % m < m → r ≡ (x + get_or a i d) % q
+pub zero_mul : (k : ℕ) → 0 * k ≡ 0
+zero_mul k = omega arith
+
+pub step_more : (m k i place step next : ℕ) → place ≡ (i * k) % m → step ≡ k % m → next ≡ (place + step) % m → next ≡ ((i + 1) * k) % m
+step_more m k i place step next place_is step_is next_is =
+    next_is
+    ∙ ap₂ (λ y z. (y + z) % m) place_is step_is
+    ∙ mod-add-mod (i * k) m (k % m)
+    ∙ add-mod-mod (i * k) k m
+    ∙ ap (λ z. z % m) (let e : i * k + k ≡ (i + 1) * k = omega arith in e)
+
+pub place_more : (q m : ℕ) (q_pos : 0 < q) (m_pos : 0 < m) (L : List ℕ) (S : List ℤ) (k : ℕ) (a : List ℕ) (i at r x d : ℕ) → length L ≡ m → i < length a → at ≡ (i * k) % m → at < m → x ≡ get_or L at x → r ≡ (x + get_or a i d) % q
     → map (residue q) (fold m (map pos L)) ≡ map (residue q) ((R m).add S (total (adds (R m)) i (place_term m k (map pos a))))
-    → map (residue q) (fold m (map pos (set L ((i * k) % m) r))) ≡ map (residue q) ((R m).add S (total (adds (R m)) (i + 1) (place_term m k (map pos a))))
-place_more q m q_pos m_pos L S k a i r x d long l x_is at_in r_is s =
-    ap (λ z. map (residue q) (fold m (map pos (set L ((i * k) % m) z)))) (r_is ∙ ap₂ (λ y z. (y + z) % q) (x_is ∙ get_or_default_zero L ((i * k) % m) x (omega (arith, long, at_in))) (get_or_default_zero a i d l))
+    → map (residue q) (fold m (map pos (set L at r))) ≡ map (residue q) ((R m).add S (total (adds (R m)) (i + 1) (place_term m k (map pos a))))
+place_more q m q_pos m_pos L S k a i at r x d long l at_is at_in x_is r_is s =
+    ap₂ (λ y z. map (residue q) (fold m (map pos (set L y z)))) at_is (r_is ∙ ap₂ (λ y z. (y + z) % q) (x_is ∙ get_or_default_zero L at x (omega (arith, long, at_in)) ∙ ap (λ y. get_or L y 0) at_is) (get_or_default_zero a i d l))
     ∙ place_next q m q_pos m_pos L S k (map pos a) i (get_or a i 0) long (ap (residue q) (get_or-map pos a i 0 (pos 0) l)) s
     ∙ ap (λ n. map (residue q) ((R m).add S (total (adds (R m)) n (place_term m k (map pos a))))) (sym (add-one i))
 

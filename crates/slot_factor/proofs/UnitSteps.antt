@@ -30,7 +30,7 @@ use Rattle.slot_laws.specs.Checks.{IsPhiFactor, residue_row, eps_sum}
 use Rattle.slot_laws.proofs.DecodeSums.{eta_power_is}
 use Rattle.slot_laws.proofs.EncodeSums.{fold_zeros, same_fold, sum_total}
 use Rattle.slot_laws.proofs.Encoding.{same-add}
-use Rattle.slot_laws.proofs.Places.{map_below, inverse_is, inverse_unit, T_unit}
+use Rattle.slot_laws.proofs.Places.{map_below, inverse_unit, T_unit}
 use Rattle.slot_laws.proofs.Roots.{unit_positive, power_residue}
 use Rattle.slot_laws.proofs.WholeValue.{map_twice, residues_lifted, residues_held, p_positive}
 use Rattle.slot_factor.proofs.CubeJoin.{slot_cube}
@@ -148,9 +148,6 @@ module _ (c : Torus) (C : IsCube c) where
 
   pub inverse_low : (j : ℕ) → j < slot_count c → 0 < inverse_modulo c.m (T_of c (index c.dimensions j))
   inverse_low j l = unit_positive c.m (inverse_modulo c.m (T_of c (index c.dimensions j))) above (inverse_unit c.m (T_of c (index c.dimensions j)) above (T_unit c (slot_cube c C) d_low j l))
-
-  pub inverse_high : (j : ℕ) → j < slot_count c → inverse_modulo c.m (T_of c (index c.dimensions j)) ≤ 65536
-  inverse_high j l = omega (arith, C.shape.m_high, (inverse_is c.m (T_of c (index c.dimensions j)) above (T_unit c (slot_cube c C) d_low j l)).0)
 
 pub zeros_below : (q n : ℕ) → 0 < q → All (λ v. v < q) (replicate n 0)
 zeros_below q zero l k d s = absurd (omega (arith, s))

@@ -47,7 +47,7 @@ fn is_right(
     alloc: Global,
     cube: &Cube,
     ext: &Ext,
-    powers: &[ExtElem],
+    powers: &[u32],
     unit: &[u64],
     slot: u32,
 ) -> Result<bool, AllocError>
@@ -74,7 +74,7 @@ pub(crate) fn bad_slot(
     alloc: Global,
     cube: &Cube,
     ext: &Ext,
-    powers: &[ExtElem],
+    powers: &[u32],
     unit: &[u64],
 ) -> Result<u32, AllocError>
     requires valid { IsExtension ext.now }

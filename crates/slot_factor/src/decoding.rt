@@ -8,7 +8,7 @@ ghost use Rattle.slot_factor.specs.Tables.{ArePowers};
 
 use crate::powers::value;
 use crate::rows::residues_of;
-use ext_field::{Ext, ExtElem};
+use ext_field::Ext;
 use hyper_cube::Cube;
 use mod_ring::Zq;
 use slot_array::SlotArray;
@@ -20,7 +20,7 @@ pub(crate) fn decode(
     zq: &Zq,
     cube: &Cube,
     ext: &Ext,
-    powers: &[ExtElem],
+    powers: &[u32],
     a: &[i64],
 ) -> Result<SlotArray, AllocError>
     requires packing { IsPacking ext.now cube.now }

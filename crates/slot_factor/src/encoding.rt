@@ -7,24 +7,12 @@ ghost use Rattle.slot_array.specs.Arrays.{IsArray};
 ghost use Rattle.slot_laws.specs.Slots.{inverse_modulo, eps, encode};
 ghost use Rattle.slot_laws.specs.Checks.{IsPacking, residue_row};
 
-use crate::rows::{balanced_of, folded, placed, product};
+use crate::rows::{balanced_of, folded, placed_product};
 use cyclo_poly::Cyclo;
 use ext_field::{Ext, ExtElem};
 use hyper_cube::Cube;
 use mod_ring::Zq;
 use std::alloc::{AllocError, Global};
-
-/// The coefficients of an element.
-fn coefficients(alloc: Global, x: &ExtElem) -> Result<Vec<u64>, AllocError>
-    ensures { IfOk result (λ r. r.items ≡ x.now) }
-{
-    let mut list = Vec::new(alloc);
-    for i in 0..x.len() {
-        let value = x.coeff(i);
-        list.push(value)?;
-    }
-    Ok(list)
-}
 
 /// The balanced residues of the sum over the slots e of (x_e * eps)(X^k), k the inverse of T(e) modulo m.
 pub(crate) fn encode(
@@ -52,9 +40,8 @@ pub(crate) fn encode(
     let m = cyclo.m() as usize;
     let mut sums = vec![in alloc; 0; m]?;
     for e in 0..cube.slot_count() {
-        let coeffs = coefficients(alloc, &x[e as usize])?;
-        let image = product(alloc, zq, &coeffs, unit)?;
-        sums = placed(zq, m, inverses[e as usize] as usize, &image, sums);
+        let coeffs = x[e as usize].coeffs();
+        sums = placed_product(zq, m, inverses[e as usize] as usize, coeffs, unit, sums);
     }
     let rest = folded(cyclo, zq, sums);
     let row = balanced_of(alloc, zq, &rest)?;

@@ -1,19 +1,19 @@
 //! The idempotent of slot 0, and products and substitutions modulo Phi_m and p.
-ghost use Rattle.std.specs.Prelude.{◌≡◌, ◌+◌, ◌*◌, ◌%◌, ◌<◌, ◌≤◌, ◌^◌, All, IfOk, length, map, pos};
+ghost use Rattle.std.specs.Prelude.{◌≡◌, ◌+◌, ◌*◌, ◌%◌, ◌<◌, ◌≤◌, ◌^◌, All, IfOk, length, map, get_or, pos};
 ghost use Rattle.algebra.specs.Whole.{residue};
 ghost use Rattle.mod_ring.specs.Zq.{modulus_of};
 ghost use Rattle.cyclotomic.specs.Cyclotomic.{R, substituted};
 ghost use Rattle.hyper_cube.specs.Torus.{slot_count, T_of, index};
 ghost use Rattle.hyper_cube.specs.Tables.{IsFilled};
-ghost use Rattle.ext_field.specs.Element.{IsExtension};
+ghost use Rattle.ext_field.specs.Element.{IsExtension, IsElement, trace};
 ghost use Rattle.slot_laws.specs.Slots.{inverse_modulo, eps};
 ghost use Rattle.slot_laws.specs.Checks.{IsPhiFactor, residue_row, eps_sum};
-ghost use Rattle.slot_factor.specs.Tables.{ArePowers};
+ghost use Rattle.slot_factor.specs.Tables.{ArePowers, AreTerms};
 
 use crate::powers::inverse;
 use crate::rows::{folded, placed, product};
 use cyclo_poly::Cyclo;
-use ext_field::{Ext, ExtElem};
+use ext_field::Ext;
 use hyper_cube::Cube;
 use mod_ring::Zq;
 use std::alloc::{AllocError, Global};
@@ -27,8 +27,6 @@ pub(crate) fn substituted(
     a: &[u64],
 ) -> Result<Vec<u64>, AllocError>
     requires k_low { 0 < k }
-    requires k_high { k ≤ 65536 }
-    requires few { length a.now ≤ 131074 }
     requires below { All (λ v. v < modulus_of zq.now) a.now }
     ensures value { IfOk result (λ r. r.items ≡ map (residue (modulus_of zq.now)) (substituted cyclo.now k (map pos a.now))) }
     ensures below { IfOk result (λ r. All (λ v. v < modulus_of zq.now) r.items) }
@@ -65,6 +63,34 @@ pub(crate) fn multiplied(
     Ok(rest)
 }
 
+/// The constant terms of the traces of 1, X, .., `X^(d - 1)`.
+fn constant_terms(alloc: Global, ext: &Ext) -> Result<Vec<u64>, AllocError>
+    ensures { IfOk result (λ r. AreTerms ext.now r.items) }
+{
+    let traces = ext.traces(alloc, ext.degree())?;
+    let mut terms = Vec::new(alloc);
+    for j in 0..traces.len() {
+        let term = traces[j].coeff(0);
+        terms.push(term)?;
+    }
+    Ok(terms)
+}
+
+/// The constant term of the trace of an element, given by its coefficients.
+fn constant_trace(ext: &Ext, row: &[u32], terms: &[u64]) -> u64
+    requires valid { IsExtension ext.now }
+    requires terms { AreTerms ext.now terms.now }
+    requires row_in { IsElement ext.now row.now }
+    ensures value { result ≡ get_or (trace ext.now row.now) 0 0 }
+    ensures below { result < ext.now.p }
+{
+    let mut sum: u64 = 0;
+    for j in 0..terms.len() {
+        sum += row[j] as u64 * terms[j];
+    }
+    sum % ext.p()
+}
+
 /// The residues of the idempotent.
 pub(crate) fn idempotent(
     alloc: Global,
@@ -72,7 +98,7 @@ pub(crate) fn idempotent(
     cube: &Cube,
     zq: &Zq,
     ext: &Ext,
-    powers: &[ExtElem],
+    powers: &[u32],
 ) -> Result<Vec<u64>, AllocError>
     requires valid { IsExtension ext.now }
     requires same_m { cyclo.now ≡ cube.now.m }
@@ -82,11 +108,14 @@ pub(crate) fn idempotent(
     ensures value { IfOk result (λ r. r.items ≡ residue_row ext.now cube.now (eps ext.now cube.now)) }
 {
     let m = cube.m();
+    let d = ext.degree() as usize;
     let unit = inverse(ext.p() as u32, m) as u64 % ext.p();
+    let terms = constant_terms(alloc, ext)?;
     let mut values = Vec::new(alloc);
     for i in 0..m {
-        let trace = ext.trace(alloc, &powers[((m - i) % m) as usize])?;
-        let value = zq.mul_word(unit, trace.coeff(0));
+        let start = ((m - i) % m) as usize * d;
+        let trace = constant_trace(ext, &powers[start..start + d], &terms);
+        let value = zq.mul_word(unit, trace);
         values.push(value)?;
     }
     let rest = folded(cyclo, zq, values);

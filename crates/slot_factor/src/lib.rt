@@ -13,6 +13,7 @@ mod plaintexts;
 mod powers;
 mod rows;
 mod slots;
+mod sums;
 
 pub use faults::SlotFault;
 pub use norms::one_norm;

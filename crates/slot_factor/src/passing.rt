@@ -28,7 +28,7 @@ pub(crate) fn checked_powers(
     cube: &Cube,
     zq: &Zq,
     ext: &Ext,
-) -> Result<Vec<ExtElem>, SlotFault>
+) -> Result<Vec<u32>, SlotFault>
     requires valid { IsExtension ext.now }
     requires same_m { cyclo.now ≡ cube.now.m }
     requires same_q { modulus_of zq.now ≡ ext.now.p }
@@ -51,7 +51,7 @@ pub(crate) fn checked_idempotent(
     cube: &Cube,
     zq: &Zq,
     ext: &Ext,
-    powers: &[ExtElem],
+    powers: &[u32],
 ) -> Result<Vec<u64>, SlotFault>
     requires valid { IsExtension ext.now }
     requires same_m { cyclo.now ≡ cube.now.m }

@@ -1,14 +1,16 @@
 //! The powers of a root of G, and the values of polynomials at them.
-ghost use Rattle.std.specs.Prelude.{◌≡◌, ◌*◌, ◌%◌, ◌<◌, ◌≤◌, All, IfOk, length, map, get_or};
+ghost use Rattle.std.specs.Prelude.{◌≡◌, ℕ, ◌*◌, ◌%◌, ◌^◌, ◌<◌, ◌≤◌, ◌++◌, All, IfOk, length, map, get_or};
 ghost use Rattle.algebra.specs.Range.{total, counts};
 ghost use Rattle.mod_ring.specs.Zq.{modulus_of};
 ghost use Rattle.ext_field.specs.Element.{IsExtension, IsElement, degree, number, eta, eta_power};
 ghost use Rattle.slot_laws.specs.Slots.{inverse_modulo};
 ghost use Rattle.slot_factor.specs.Tables.{ArePowers, value_of};
 
+use crate::sums::{add_multiple, next_place, reduce};
 use cyclo_poly::{Poly, divide_monic};
 use ext_field::{Ext, ExtElem};
 use mod_ring::{Ring, Zq};
+use moduli_table::inverse_or_zero;
 use std::alloc::{AllocError, Global};
 
 /// The remainder of X by G.
@@ -64,55 +66,66 @@ pub(crate) fn numbers(
     Ok(list)
 }
 
-/// The remainders of 1, X, .., `X^(m - 1)` by G.
+/// Puts the coefficients of an element at the end of a table.
+fn appended(table: Vec<u32>, x: &ExtElem) -> Result<Vec<u32>, AllocError>
+    requires { All (λ c. c < 2 ^ 17) x.now }
+    ensures { IfOk result (λ r. r.items ≡ table.items ++ x.now) }
+{
+    let mut table = table;
+    for i in 0..x.len() {
+        table.push(x.coeff(i) as u32)?;
+    }
+    Ok(table)
+}
+
+/// The remainders of 1, X, .., `X^(m - 1)` by G, one after the other in one table.
 pub(crate) fn powers(
     alloc: Global,
     ext: &Ext,
     root: &ExtElem,
     m: u32,
-) -> Result<Vec<ExtElem>, AllocError>
+) -> Result<Vec<u32>, AllocError>
     requires valid { IsExtension ext.now }
     requires root { root.now ≡ eta ext.now }
     requires root_in { IsElement ext.now root.now }
     ensures { IfOk result (λ r. ArePowers ext.now m r.items) }
 {
-    let mut powers = Vec::new(alloc);
+    let mut table = Vec::new(alloc);
     let mut power = ext.one(alloc)?;
     for _step in 0..m {
-        let next = ext.mul(alloc, root, &power)?;
-        powers.push(power)?;
-        power = next;
+        table = appended(table, &power)?;
+        power = ext.mul(alloc, root, &power)?;
     }
-    Ok(powers)
+    Ok(table)
 }
 
-/// Coefficient j of the value of a polynomial at `X^t`.
-fn coefficient(ext: &Ext, powers: &[ExtElem], m: u32, t: u32, a: &[u64], j: u32) -> u64
+/// Adds to d sums the coefficients of the value of a polynomial at `X^t`, each up to a multiple of p.
+fn add_terms(ext: &Ext, powers: &[u32], m: u32, t: u32, a: &[u64], sums: &mut [u64])
     requires valid { IsExtension ext.now }
     requires powers { ArePowers ext.now m powers.now }
     requires m_low { 0 < m }
     requires m_high { m ≤ 65536 }
-    requires t_high { t ≤ 65536 }
     requires few { length a.now ≤ 65536 }
     requires small { All (λ v. v < ext.now.p) a.now }
-    requires j_in { j < degree ext.now }
-    ensures value { result ≡ total counts (length a.now)
-        (λ i. get_or a.now i 0 * get_or (eta_power ext.now ((i * t) % m)) j 0) % ext.now.p }
-    ensures below { result < ext.now.p }
+    requires long { length sums.old ≡ degree ext.now }
+    requires zeros { (j : ℕ) → get_or sums.old j 0 ≡ 0 }
+    ensures { (j : ℕ) → get_or sums.new j 0 ≡ total counts (length a.now)
+        (λ i. get_or a.now i 0 * get_or (eta_power ext.now ((i * t) % m)) j 0) }
 {
-    let mut sum: u64 = 0;
+    let d = ext.degree() as usize;
+    let step = (t % m) as usize;
+    let mut place = 0;
     for i in 0..a.len() {
-        let power = &powers[i * t as usize % m as usize];
-        sum += a[i] * power.coeff(j);
+        add_multiple(a[i], &powers[place * d..place * d + d], sums);
+        place = next_place(place, step, m as usize);
     }
-    sum % ext.p()
 }
 
 /// The value of a polynomial at `X^t`.
 pub(crate) fn value(
     alloc: Global,
     ext: &Ext,
-    powers: &[ExtElem],
+    powers: &[u32],
     m: u32,
     t: u32,
     a: &[u64],
@@ -121,18 +134,15 @@ pub(crate) fn value(
     requires powers { ArePowers ext.now m powers.now }
     requires m_low { 0 < m }
     requires m_high { m ≤ 65536 }
-    requires t_high { t ≤ 65536 }
     requires few { length a.now ≤ 65536 }
     requires small { All (λ v. v < ext.now.p) a.now }
     ensures value { IfOk result (λ r. r ≡ value_of ext.now m t a.now) }
     ensures element { IfOk result (λ r. IsElement ext.now r) }
 {
-    let mut coeffs = Vec::new(alloc);
-    for j in 0..ext.degree() {
-        let coefficient = coefficient(ext, powers, m, t, a, j);
-        coeffs.push(coefficient)?;
-    }
-    let value = ext.element(alloc, &coeffs)?;
+    let mut sums = vec![in alloc; 0u64; ext.degree() as usize]?;
+    add_terms(ext, powers, m, t, a, &mut sums);
+    reduce(ext.p(), &mut sums);
+    let value = ext.element(alloc, &sums)?;
     Ok(value)
 }
 
@@ -143,10 +153,6 @@ pub(crate) fn inverse(n: u32, a: u32) -> u32
     requires a_high { a ≤ 65536 }
     ensures { result ≡ inverse_modulo n a }
 {
-    for u in 0..n {
-        if a as u64 * u as u64 % n as u64 == 1 {
-            return u;
-        }
-    }
-    n
+    let inverse = inverse_or_zero(a as u64, n as u64);
+    if inverse == 0 { n } else { inverse as u32 }
 }

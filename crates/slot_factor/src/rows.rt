@@ -7,6 +7,7 @@ ghost use Rattle.mod_ring.specs.Zq.{modulus_of};
 ghost use Rattle.cyclotomic.specs.Cyclotomic.{R, fold, substituted};
 ghost use Rattle.slot_laws.specs.Slots.{balanced_row};
 
+use crate::sums::next_place;
 use cyclo_poly::Cyclo;
 use mod_ring::Zq;
 use std::alloc::{AllocError, Global};
@@ -79,10 +80,8 @@ fn product_at(zq: &Zq, a: &[u64], b: &[u64], i: usize) -> u64
     ensures below { result < modulus_of zq.now }
 {
     let mut sum: u64 = 0;
-    for j in 0..a.len().min(i + 1) {
-        if i - j < b.len() {
-            sum += a[j] * b[i - j];
-        }
+    for j in (i + 1).saturating_sub(b.len())..a.len().min(i + 1) {
+        sum += a[j] * b[i - j];
     }
     sum % zq.modulus()
 }
@@ -112,8 +111,6 @@ pub(crate) fn placed(zq: &Zq, m: usize, k: usize, a: &[u64], sums: Vec<u64>) -> 
     requires m_low { 0 < m }
     requires m_high { m ≤ 65536 }
     requires k_low { 0 < k }
-    requires k_high { k ≤ 65536 }
-    requires few { length a.now ≤ 131074 }
     requires long { length sums.items ≡ m }
     requires a_below { All (λ v. v < modulus_of zq.now) a.now }
     requires below { All (λ v. v < modulus_of zq.now) sums.items }
@@ -122,10 +119,50 @@ pub(crate) fn placed(zq: &Zq, m: usize, k: usize, a: &[u64], sums: Vec<u64>) -> 
     ensures long { length result.items ≡ m }
     ensures below { All (λ v. v < modulus_of zq.now) result.items }
 {
+    let step = k % m;
+    let mut place = 0;
     let mut sums = sums;
     for i in 0..a.len() {
-        let at = i * k % m;
-        sums[at] = zq.add_word(sums[at], a[i]);
+        sums[place] = zq.add_word(sums[place], a[i]);
+        place = next_place(place, step, m);
+    }
+    sums
+}
+
+/// The m sums with (a b)(X^k) added: coefficient i of the product goes to the place i * k modulo m.
+pub(crate) fn placed_product(
+    zq: &Zq,
+    m: usize,
+    k: usize,
+    a: &[u64],
+    b: &[u64],
+    sums: Vec<u64>,
+) -> Vec<u64>
+    requires m_low { 0 < m }
+    requires m_high { m ≤ 65536 }
+    requires p_high { modulus_of zq.now < 2 ^ 17 }
+    requires k_low { 0 < k }
+    requires a_some { 0 < length a.now }
+    requires b_some { 0 < length b.now }
+    requires a_few { length a.now ≤ 65537 }
+    requires b_few { length b.now ≤ 65537 }
+    requires long { length sums.items ≡ m }
+    requires a_below { All (λ v. v < modulus_of zq.now) a.now }
+    requires b_below { All (λ v. v < modulus_of zq.now) b.now }
+    requires below { All (λ v. v < modulus_of zq.now) sums.items }
+    ensures value { map (residue (modulus_of zq.now)) (fold m (map pos result.items))
+        ≡ map (residue (modulus_of zq.now)) ((R m).add (fold m (map pos sums.items))
+        (substituted m k (map pos (times (residues (modulus_of zq.now)) a.now b.now)))) }
+    ensures long { length result.items ≡ m }
+    ensures below { All (λ v. v < modulus_of zq.now) result.items }
+{
+    let step = k % m;
+    let mut place = 0;
+    let mut sums = sums;
+    for i in 0..a.len() + b.len() - 1 {
+        let term = product_at(zq, a, b, i);
+        sums[place] = zq.add_word(sums[place], term);
+        place = next_place(place, step, m);
     }
     sums
 }

@@ -24,8 +24,8 @@ pub struct Slots {
     dual: Vec<ExtElem>,
     pub(crate) cyclo: Cyclo,
     pub(crate) zq: Zq,
-    // the remainders of the powers of X below m by G
-    pub(crate) powers: Vec<ExtElem>,
+    // the remainders of the powers of X below m by G, one after the other
+    pub(crate) powers: Vec<u32>,
     // the idempotent of slot 0
     pub(crate) unit: Vec<u64>,
     // the inverse of T(e) modulo m for each slot e

@@ -1,11 +1,13 @@
-use Rattle.std.proofs.Common.{◌<◌, ◌≤◌, map, pos, ap, sym, subst, ◌∙◌, arith, length, get_or}
+use Rattle.std.proofs.Common.{◌<◌, map, pos, refl, ap, sym, subst, ◌∙◌, arith, length, get_or}
 use Rattle.std.specs.List.{All}
 use Rattle.std.proofs.lemmas.List.{length-replicate}
+use Rattle.algebra.specs.Poly.{times}
+use Rattle.algebra.specs.Ring.{residues}
 use Rattle.mod_ring.specs.Zq.{modulus_of}
 use Rattle.cyclotomic.specs.Cyclotomic.{fold}
-use Rattle.slot_factor.proofs.EncodeSteps.{element_at, k_low, product_few, zeros_start, slot_more, encoded_is}
+use Rattle.slot_factor.proofs.EncodeSteps.{element_at, k_low, zeros_start, slot_more, encoded_is}
 use Rattle.slot_factor.proofs.PackedSteps.{balanced_from}
-use Rattle.slot_factor.proofs.UnitSteps.{inverse_high, zeros_below, unit_below}
+use Rattle.slot_factor.proofs.UnitSteps.{zeros_below, unit_below}
 use Rattle.slot_factor.proofs.encoding.encode.Goals as goal
 
 pub loop-e-init : goal.loop-e-init
@@ -17,26 +19,20 @@ loop-e-init c =
       below = subst (All (λ v. v < modulus_of c.args.zq.now)) (sym zs) (zeros_below (modulus_of c.args.zq.now) c.m-m.result (omega (arith, c.args.zq.now.in_range)));
     }
 
-pub product-requires-clause-b_below : goal.product-requires-clause-b_below
-product-requires-clause-b_below c = unit_below c.args.ext.now c.args.cube.now c.args.unit.now (modulus_of c.args.zq.now) (omega (arith, c.args.zq.now.in_range)) c.requires.same_q c.requires.unit
+pub placed_product-sums-requires-clause-b_below : goal.placed_product-sums-requires-clause-b_below
+placed_product-sums-requires-clause-b_below c = unit_below c.args.ext.now c.args.cube.now c.args.unit.now (modulus_of c.args.zq.now) (omega (arith, c.args.zq.now.in_range)) c.requires.same_q c.requires.unit
 
-pub placed-sums-requires-clause-k_low : goal.placed-sums-requires-clause-k_low
-placed-sums-requires-clause-k_low c = subst (λ z. 0 < z) (sym (c.requires.inverses.at c.loop-e.e (omega (arith, c.loop-e-test.true, c.slot_count-e-end.ensures.value)))) (k_low c.args.ext.now c.args.cube.now c.requires.packing c.loop-e.e (omega (arith, c.loop-e-test.true, c.slot_count-e-end.ensures.value)))
-
-pub placed-sums-requires-clause-k_high : goal.placed-sums-requires-clause-k_high
-placed-sums-requires-clause-k_high c = subst (λ z. z ≤ 65536) (sym (c.requires.inverses.at c.loop-e.e (omega (arith, c.loop-e-test.true, c.slot_count-e-end.ensures.value)))) (inverse_high c.args.cube.now c.slot_count-e-end.ensures.valid c.loop-e.e (omega (arith, c.loop-e-test.true, c.slot_count-e-end.ensures.value)))
-
-pub placed-sums-requires-clause-few : goal.placed-sums-requires-clause-few
-placed-sums-requires-clause-few c = product_few c.args.ext.now c.args.cube.now c.requires.packing c.args.x.now c.loop-e.e (modulus_of c.args.zq.now) c.deref.result.now c.args.unit.now c.deref-in-loop-e.result.now c.requires.array (omega (arith, c.loop-e-test.true, c.slot_count-e-end.ensures.value)) (c.deref.ensures.value ∙ c.in_ok-coeffs.ensures ∙ element_at c.args.x.now c.loop-e.e c.index-x-e.result (omega (arith, c.loop-e-test.true, c.slot_count-e-end.ensures.value, c.requires.array.long)) c.index-x-e.is) c.requires.some c.requires.few (c.deref-in-loop-e.ensures.value ∙ c.in_ok-image.ensures.value)
+pub placed_product-sums-requires-clause-k_low : goal.placed_product-sums-requires-clause-k_low
+placed_product-sums-requires-clause-k_low c = subst (λ z. 0 < z) (sym (c.requires.inverses.at c.loop-e.e (omega (arith, c.loop-e-test.true, c.slot_count-e-end.ensures.value)))) (k_low c.args.ext.now c.args.cube.now c.requires.packing c.loop-e.e (omega (arith, c.loop-e-test.true, c.slot_count-e-end.ensures.value)))
 
 pub loop-e-preserved : goal.loop-e-preserved
 loop-e-preserved c = record {
-  value = slot_more c.args.ext.now c.args.cube.now c.requires.packing c.args.x.now c.loop-e.e (modulus_of c.args.zq.now) c.m-m.result (get_or c.args.inverses.now c.loop-e.e 0) c.deref.result.now c.args.unit.now c.deref-in-loop-e.result.now (map pos c.loop-e.sums.items) (map pos c.placed-sums.result.items) c.requires.array (omega (arith, c.loop-e-test.true, c.slot_count-e-end.ensures.value)) c.requires.same_q (c.m-m.ensures.value ∙ c.requires.same_m) (c.requires.inverses.at c.loop-e.e (omega (arith, c.loop-e-test.true, c.slot_count-e-end.ensures.value))) (c.deref.ensures.value ∙ c.in_ok-coeffs.ensures ∙ element_at c.args.x.now c.loop-e.e c.index-x-e.result (omega (arith, c.loop-e-test.true, c.slot_count-e-end.ensures.value, c.requires.array.long)) c.index-x-e.is) c.requires.unit (c.deref-in-loop-e.ensures.value ∙ c.in_ok-image.ensures.value) c.placed-sums.ensures.value c.loop-e.invariant.value;
-  long = c.placed-sums.ensures.long;
-  below = c.placed-sums.ensures.below;
+  value = slot_more c.args.ext.now c.args.cube.now c.requires.packing c.args.x.now c.loop-e.e (modulus_of c.args.zq.now) c.m-m.result (get_or c.args.inverses.now c.loop-e.e 0) c.coeffs-coeffs.result.now c.args.unit.now (times (residues (modulus_of c.args.zq.now)) c.coeffs-coeffs.result.now c.args.unit.now) (map pos c.loop-e.sums.items) (map pos c.placed_product-sums.result.items) c.requires.array (omega (arith, c.loop-e-test.true, c.slot_count-e-end.ensures.value)) c.requires.same_q (c.m-m.ensures.value ∙ c.requires.same_m) (c.requires.inverses.at c.loop-e.e (omega (arith, c.loop-e-test.true, c.slot_count-e-end.ensures.value))) (c.coeffs-coeffs.ensures ∙ element_at c.args.x.now c.loop-e.e c.index-x-e.result (omega (arith, c.loop-e-test.true, c.slot_count-e-end.ensures.value, c.requires.array.long)) c.index-x-e.is) c.requires.unit refl c.placed_product-sums.ensures.value c.loop-e.invariant.value;
+  long = c.placed_product-sums.ensures.long;
+  below = c.placed_product-sums.ensures.below;
 }
 
 pub returns : goal.returns
 returns c =
     let q = modulus_of c.args.zq.now in
-    encoded_is c.args.ext.now c.args.cube.now c.requires.packing c.args.x.now q c.args.cyclo.now c.loop-e.e c.loop-e.sums.items c.in_ok-row.row.items c.requires.same_q c.requires.same_m (omega (arith, c.loop-e-test.false, c.loop-e.auto.e-end, c.slot_count-e-end.ensures.value)) (balanced_from q c.args.cyclo.now (omega (arith, c.args.zq.now.in_range)) (fold c.args.cyclo.now (map pos c.loop-e.sums.items)) c.in_ok-row.row.items c.deref-2.result.now c.folded-rest.result.items c.in_ok-row.ensures c.deref-2.ensures.value c.folded-rest.ensures.value) c.loop-e.invariant.value
+    encoded_is c.args.ext.now c.args.cube.now c.requires.packing c.args.x.now q c.args.cyclo.now c.loop-e.e c.loop-e.sums.items c.in_ok-row.row.items c.requires.same_q c.requires.same_m (omega (arith, c.loop-e-test.false, c.loop-e.auto.e-end, c.slot_count-e-end.ensures.value)) (balanced_from q c.args.cyclo.now (omega (arith, c.args.zq.now.in_range)) (fold c.args.cyclo.now (map pos c.loop-e.sums.items)) c.in_ok-row.row.items c.deref.result.now c.folded-rest.result.items c.in_ok-row.ensures c.deref.ensures.value c.folded-rest.ensures.value) c.loop-e.invariant.value

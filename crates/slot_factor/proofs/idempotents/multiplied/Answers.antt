@@ -1,14 +1,9 @@
-use Rattle.std.proofs.Common.{length, map, pos, arith, ap, ◌∙◌}
-use Rattle.algebra.specs.Ring.{residues}
+use Rattle.std.proofs.Common.{map, pos, arith, ap, ◌∙◌}
 use Rattle.algebra.specs.Whole.{residue}
-use Rattle.algebra.proofs.Lists.{length-times}
 use Rattle.mod_ring.specs.Zq.{modulus_of}
 use Rattle.cyclotomic.specs.Cyclotomic.{substituted}
 use Rattle.slot_factor.proofs.UnitSteps.{times_row}
 use Rattle.slot_factor.proofs.idempotents.multiplied.Goals as goal
-
-pub substituted-requires-clause-few : goal.substituted-requires-clause-few
-substituted-requires-clause-few c = omega (arith, c.requires.a_few, c.requires.b_few, ap length c.deref.ensures.value, ap length c.in_ok-product.ensures.value, length-times (residues (modulus_of c.args.zq.now)) c.args.a.now c.args.b.now c.requires.a_some c.requires.b_some)
 
 pub returns-clause-value : goal.returns-clause-value
 returns-clause-value c =

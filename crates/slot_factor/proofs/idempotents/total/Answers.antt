@@ -1,4 +1,4 @@
-use Rattle.std.proofs.Common.{◌<◌, ◌≤◌, map, pos, ap, sym, subst, ◌∙◌, arith, length, get_or}
+use Rattle.std.proofs.Common.{◌<◌, map, pos, ap, sym, subst, ◌∙◌, arith, length, get_or}
 use Rattle.std.specs.List.{All}
 use Rattle.std.proofs.lemmas.List.{length-replicate}
 use Rattle.mod_ring.specs.Zq.{modulus_of}
@@ -7,7 +7,7 @@ use Rattle.cyclotomic.specs.Cyclotomic.{fold}
 use Rattle.hyper_cube.specs.Torus.{T_of, index}
 use Rattle.slot_laws.specs.Slots.{inverse_modulo}
 use Rattle.slot_laws.proofs.EncodeSums.{fold_zeros}
-use Rattle.slot_factor.proofs.UnitSteps.{images_more, total_is, inverse_low, inverse_high, zeros_below, unit_below}
+use Rattle.slot_factor.proofs.UnitSteps.{images_more, total_is, inverse_low, zeros_below, unit_below}
 use Rattle.slot_factor.proofs.idempotents.total.Goals as goal
 
 pub loop-e-init : goal.loop-e-init
@@ -22,9 +22,6 @@ loop-e-init c =
 
 pub placed-sums-requires-clause-k_low : goal.placed-sums-requires-clause-k_low
 placed-sums-requires-clause-k_low c = subst (λ z. 0 < z) (sym (c.requires.inverses.at c.loop-e.e (omega (arith, c.loop-e-test.true, c.slot_count-e-end.ensures.value)))) (inverse_low c.args.cube.now c.slot_count-e-end.ensures.valid c.loop-e.e (omega (arith, c.loop-e-test.true, c.slot_count-e-end.ensures.value)))
-
-pub placed-sums-requires-clause-k_high : goal.placed-sums-requires-clause-k_high
-placed-sums-requires-clause-k_high c = subst (λ z. z ≤ 65536) (sym (c.requires.inverses.at c.loop-e.e (omega (arith, c.loop-e-test.true, c.slot_count-e-end.ensures.value)))) (inverse_high c.args.cube.now c.slot_count-e-end.ensures.valid c.loop-e.e (omega (arith, c.loop-e-test.true, c.slot_count-e-end.ensures.value)))
 
 pub placed-sums-requires-clause-a_below : goal.placed-sums-requires-clause-a_below
 placed-sums-requires-clause-a_below c = unit_below c.args.ext.now c.args.cube.now c.args.unit.now (modulus_of c.args.zq.now) (omega (arith, c.args.zq.now.in_range)) c.requires.same_q c.requires.unit

@@ -1,12 +1,9 @@
 use Rattle.std.proofs.Common.{arith}
-use Rattle.slot_factor.proofs.PowerSteps.{not_yet, inverse_found, inverse_none}
+use Rattle.slot_factor.proofs.PowerSteps.{inverse_found, inverse_none}
 use Rattle.slot_factor.proofs.powers.inverse.Goals as goal
 
-pub returns-then-a-u-eq1 : goal.returns-then-a-u-eq1
-returns-then-a-u-eq1 c = inverse_found c.args.n c.args.a c.loop-u.u c.requires.n_low (omega (arith, c.loop-u-test.true)) c.if-a-u-eq1.true c.loop-u.invariant
+pub returns-then-inverse-eq0 : goal.returns-then-inverse-eq0
+returns-then-inverse-eq0 c = inverse_none c.args.n c.args.a c.requires.n_low (c.inverse_or_zero-inverse.ensures.none c.if-inverse-eq0.true)
 
-pub loop-u-preserved : goal.loop-u-preserved
-loop-u-preserved c = not_yet c.args.n c.args.a c.loop-u.u c.requires.n_low c.if-a-u-eq1.false c.loop-u.invariant
-
-pub returns : goal.returns
-returns c = inverse_none c.args.n c.args.a c.loop-u.u (omega (arith, c.loop-u-test.false)) c.loop-u.invariant
+pub returns-else-inverse-eq0 : goal.returns-else-inverse-eq0
+returns-else-inverse-eq0 c = inverse_found c.args.n c.args.a c.inverse_or_zero-inverse.result c.requires.n_low c.inverse_or_zero-inverse.ensures.below (c.inverse_or_zero-inverse.ensures.inverse (omega (arith, c.if-inverse-eq0.false)))

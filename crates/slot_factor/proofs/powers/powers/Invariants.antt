@@ -7,7 +7,7 @@ use Rattle.slot_factor.proofs.powers.powers.Given as goal
 abbrev pub invariant-loop-step : goal.invariant-loop-step
 invariant-loop-step l =
     record {
-      powers : ArePowers l.ext l._step l.powers.items;
+      powers : ArePowers l.ext l._step l.table.items;
       power : l.power ≡ power (elements l.ext) (eta l.ext) l._step;
       element : IsElement l.ext l.power;
     }

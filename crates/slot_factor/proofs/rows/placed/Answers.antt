@@ -1,5 +1,5 @@
-use Rattle.std.proofs.Common.{◌<◌, ◌*◌, ◌%◌, map, pos, refl, ap, ◌∙◌, arith}
-use Rattle.std.proofs.Math.Nat.{mod-lt}
+use Rattle.std.proofs.Common.{◌<◌, ◌%◌, map, pos, refl, sym, ap, ◌∙◌, arith}
+use Rattle.std.proofs.Math.Nat.{mod-eq_of_lt}
 use Rattle.std.proofs.lemmas.List.{length-set}
 use Rattle.std.proofs.lemmas.List.Elements.{All-set}
 use Rattle.algebra.specs.Whole.{residue}
@@ -8,7 +8,7 @@ use Rattle.cyclotomic.proofs.RingR.{fold_element}
 use Rattle.mod_ring.specs.Zq.{modulus_of}
 use Rattle.slot_laws.proofs.EncodeSums.{places_start}
 use Rattle.slot_laws.proofs.FoldSums.{place_term}
-use Rattle.slot_factor.proofs.RowSteps.{place_more, places_whole}
+use Rattle.slot_factor.proofs.RowSteps.{zero_mul, step_more, place_more, places_whole}
 use Rattle.slot_factor.proofs.rows.placed.Goals as goal
 
 pub loop-i-init : goal.loop-i-init
@@ -18,16 +18,20 @@ loop-i-init c =
       value = places_start (modulus_of c.args.zq.now) c.args.m (omega (arith, c.args.zq.now.in_range)) c.requires.m_low c.args.sums.items S (place_term c.args.m c.args.k (map pos c.args.a.now)) (fold_element c.args.m (map pos c.args.sums.items)) refl;
       long = c.requires.long;
       below = c.requires.below;
+      place = sym (ap (λ z. z % c.args.m) (zero_mul c.args.k) ∙ mod-eq_of_lt c.requires.m_low);
+      within = c.requires.m_low;
     }
 
 pub loop-i-preserved : goal.loop-i-preserved
 loop-i-preserved c =
     let q = modulus_of c.args.zq.now in
-    let at = (c.loop-i.i * c.args.k) % c.args.m in
+    let at = c.loop-i.place in
     record {
-      value = place_more q c.args.m (omega (arith, c.args.zq.now.in_range)) c.requires.m_low c.loop-i.sums.items (fold c.args.m (map pos c.args.sums.items)) c.args.k c.args.a.now c.loop-i.i c.add_word.result c.index.result.now _ c.loop-i.invariant.long (omega (arith, c.loop-i-test.true)) c.index.ensures (mod-lt (c.loop-i.i * c.args.k) c.requires.m_low) c.add_word.ensures.value c.loop-i.invariant.value;
+      value = place_more q c.args.m (omega (arith, c.args.zq.now.in_range)) c.requires.m_low c.loop-i.sums.items (fold c.args.m (map pos c.args.sums.items)) c.args.k c.args.a.now c.loop-i.i at c.add_word.result c.index.result.now _ c.loop-i.invariant.long (omega (arith, c.loop-i-test.true)) c.loop-i.invariant.place c.loop-i.invariant.within c.index.ensures (c.add_word.ensures.value) c.loop-i.invariant.value;
       long = length-set c.loop-i.sums.items at c.add_word.result ∙ c.loop-i.invariant.long;
       below = All-set (λ v. v < q) c.loop-i.sums.items at c.add_word.result c.add_word.ensures.below c.loop-i.invariant.below;
+      place = step_more c.args.m c.args.k c.loop-i.i at (c.args.k % c.args.m) c.next_place-place.result c.loop-i.invariant.place refl c.next_place-place.ensures.value;
+      within = c.next_place-place.ensures.below;
     }
 
 pub returns-clause-value : goal.returns-clause-value
