@@ -5,3 +5,5 @@
 mod pairs;
 #[cfg(test)]
 mod plain;
+#[cfg(test)]
+mod roots;

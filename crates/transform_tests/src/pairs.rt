@@ -4,6 +4,7 @@ ghost use Rattle.mod_ring.specs.Zq.{modulus_of};
 ghost use Rattle.bluestein.specs.Plan.{AreRoots};
 
 use crate::plain::values_at_powers;
+use crate::roots::are_roots;
 use bluestein::{Plan, Scratch};
 use mod_ring::Zq;
 use std::alloc::{AllocError, Global};
@@ -111,6 +112,29 @@ fn agreement_with_horner(rt: HostRuntime) -> Result<(), Fail> {
     assert!(rt; agree(alloc, 3612833281, 105, 1174398836, 2330766220)?);
     assert!(rt; agree(alloc, 1073748737, 128, 1064280392, 1064280392)?);
     assert!(rt; agree(alloc, 25570049, 128, 3385325, 3385325)?);
+    Ok(())
+}
+
+#[test]
+fn agreement_with_horner_of_many_values(rt: HostRuntime) -> Result<(), Fail> {
+    for (q, zeta, psi, inverting) in [
+        (
+            2305843009191321601,
+            495959065265757916,
+            1869869712721145805,
+            2305843009191321599,
+        ),
+        // 496742401 * 458895361
+        (
+            227952783430901761,
+            107767289596067483,
+            141398851668236619,
+            227952782475263999,
+        ),
+    ] {
+        assert!(rt; are_roots(q, 1155, zeta, psi, inverting));
+        assert!(rt; agree(rt.alloc(), q, 1155, zeta, psi)?);
+    }
     Ok(())
 }
 
