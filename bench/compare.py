@@ -1,28 +1,36 @@
 #!/usr/bin/env python3
-"""Runs the programs given in turns and prints the least times of each and the ratios of the first to the second.
+"""Runs programs of this folder in turns, and prints the least time of each thing that they name, in microseconds.
 
-    compare.py ROUNDS PROVED PLAIN
+    compare.py ROUNDS PROVED [PLAIN]
 
-PROVED prints lines `m nanoseconds nanoseconds` (a forward, the tables), PLAIN lines `m microseconds microseconds`.
+The programs print lines of a name and nanoseconds. The name may end in a number, the length. A ratio is that of PROVED to PLAIN, and a
+growth that of twice the length to the length.
 """
 import subprocess
 import sys
 
 
-def least(best, text, unit):
-    for line in text.split("\n"):
-        words = line.split()
-        if len(words) == 3:
-            m, forward, tables = int(words[0]), float(words[1]) * unit, float(words[2]) * unit
-            old = best.get(m, (forward, tables))
-            best[m] = (min(old[0], forward), min(old[1], tables))
+def least(best, program):
+    for line in subprocess.run([program], capture_output=True, text=True, check=True).stdout.splitlines():
+        *name, took = line.split()
+        name = " ".join(name)
+        best[name] = min(best.get(name, float("inf")), int(took) / 1e3)
 
 
-rounds, proved, plain = int(sys.argv[1]), {}, {}
+rounds, programs = int(sys.argv[1]), sys.argv[2:]
+times = [{} for _ in programs]
 for _ in range(rounds):
-    least(proved, subprocess.run([sys.argv[2]], capture_output=True, text=True).stdout, 1e-3)
-    least(plain, subprocess.run([sys.argv[3], "20"], capture_output=True, text=True).stdout, 1.0)
-print("m, proved us, plain C++ us, ratio, tables in forwards")
-for m in sorted(proved):
-    a, b = proved[m], plain[m]
-    print(f"{m} {a[0]:.1f} {b[0]:.1f} {a[0] / b[0]:.2f} {a[1] / a[0]:.1f}")
+    for best, program in zip(times, programs):
+        least(best, program)
+for name, proved in times[0].items():
+    row = f"{name}: {proved:.1f}"
+    for best in times[1:]:
+        if name in best:
+            row += f", plain {best[name]:.1f}, ratio {proved / best[name]:.2f}"
+    print(row)
+for best, body in zip(times, ("proved", "plain")):
+    for name, took in best.items():
+        *first, last = name.split()
+        double = " ".join([*first, str(2 * int(last))]) if last.isdigit() else ""
+        if double in best:
+            print(f"growth of {body} {name} to {double}: {best[double] / took:.2f}")
