@@ -6,7 +6,9 @@ ghost use Rattle.ext_field.specs.Element.{IsElement, degree};
 ghost use Rattle.slot_array.specs.Arrays.{IsArray};
 ghost use Rattle.cyclotomic.specs.Cyclotomic as cyclotomic;
 ghost use Rattle.slot_laws.specs.Slots.{balanced_row};
+ghost use Rattle.slot_program.specs.WellFormed.{IsProgram};
 
+use crate::rows::text_of;
 use cyclo_poly::Cyclo;
 use ext_field::{Ext, ExtElem};
 use hyper_cube::Cube;
@@ -14,6 +16,7 @@ use mod_ring::Ring;
 use slot_array::{SlotArray, print_slots, read_slots};
 use slot_factor::{SlotFault, Slots};
 use slot_laws::slots::law_encodes_slots;
+use slot_program::{Program, read};
 use std::alloc::{AllocError, Global};
 use std::process::Abort;
 use std::test::Fail;
@@ -136,46 +139,62 @@ pub fn cyclo_of<R: Abort + AllocGlobal>(rt: &R, slots: &Slots) -> Result<Cyclo, 
     cyclo(rt, slots.cube().m())
 }
 
-/// The unit at which a slot of a cube stands.
-pub fn unit(rt: &impl Abort, cube: &Cube, slot: u32) -> u32
-    ensures low { 1 ≤ result }
-    ensures high { result < cube.now.m }
-    ensures unit { UnitModulo cube.now.m result }
+/// Asserts that k has this inverse modulo m.
+fn assert_inverse(rt: &impl Abort, m: u32, k: u32, inverse: u32)
+    requires { 0 < m }
+    ensures { UnitModulo m k }
 {
-    assert!(rt; slot < cube.slot_count());
-    let k = cube.element(slot);
-    assert!(rt; 1 <= k && k < cube.m());
-    k
+    let product = k as u64 * inverse as u64;
+    assert!(rt; product % m as u64 == 1);
 }
 
-/// The unit at which a slot stands.
-pub fn unit_of(rt: &impl Abort, slots: &Slots, slot: u32) -> u32
-    ensures low { 1 ≤ result }
-    ensures high { result < slots.now.cube.m }
-    ensures unit { UnitModulo slots.now.cube.m result }
+/// Asserts that k is a unit modulo the m of a cube.
+pub fn assert_unit(rt: &impl Abort, cube: &Cube, k: u32)
+    ensures low { 1 ≤ k }
+    ensures high { k < cube.now.m }
+    ensures unit { UnitModulo cube.now.m k }
 {
-    unit(rt, slots.cube(), slot)
+    let m = cube.m();
+    assert!(rt; 1 <= k && k < m);
+    let inverse = (1..m).find(|u| k as u64 * *u as u64 % m as u64 == 1);
+    assert_inverse(rt, m, k, inverse.unwrap_or(0));
 }
 
 /// The array that a text writes.
-pub fn array<R: Abort + AllocGlobal>(rt: &R, slots: &Slots, text: &str) -> Result<SlotArray, Fail>
+pub fn array(alloc: Global, slots: &Slots, text: &str) -> Result<SlotArray, Fail>
     ensures { IfOk result (λ x. IsArray slots.now.field slots.now.cube x) }
 {
-    let array = read_slots(rt.alloc(), slots.cube(), slots.ext(), text.as_bytes())?;
+    let text = text_of(alloc, text)?;
+    let array = read_slots(alloc, slots.cube(), slots.ext(), text.as_slice())?;
     Ok(array)
 }
 
+/// The arrays that texts write, with `|` between.
+pub fn arrays_of(alloc: Global, slots: &Slots, texts: &str) -> Result<Vec<SlotArray>, Fail>
+    ensures { IfOk result (λ list. All (λ x. IsArray slots.now.field slots.now.cube x) list.items) }
+{
+    let mut list = Vec::new(alloc);
+    for text in texts.split('|') {
+        list.push(array(alloc, slots, text)?)?;
+    }
+    Ok(list)
+}
+
+/// The program that a text writes.
+pub fn program(alloc: Global, slots: &Slots, text: &[u8]) -> Result<Program, Fail>
+    ensures { IfOk result (λ program. IsProgram slots.now.field slots.now.cube program) }
+{
+    let program = read(alloc, slots.cube(), slots.ext(), text)?;
+    Ok(program)
+}
+
 /// The plaintext whose slots a text writes.
-pub fn plaintext<R: Abort + AllocGlobal>(
-    rt: &R,
-    slots: &Slots,
-    text: &str,
-) -> Result<Vec<i64>, Fail>
+pub fn plaintext(alloc: Global, slots: &Slots, text: &str) -> Result<Vec<i64>, Fail>
     ensures long { IfOk result (λ a. length a.items ≡ cyclotomic.degree slots.now.cube.m) }
     ensures own { IfOk result (λ a. balanced_row slots.now.field.p a.items ≡ a.items) }
 {
-    let array = array(rt, slots, text)?;
-    encoded(rt.alloc(), slots, &array)
+    let array = array(alloc, slots, text)?;
+    encoded(alloc, slots, &array)
 }
 
 /// The plaintext with these slots.
@@ -190,24 +209,25 @@ fn encoded(alloc: Global, slots: &Slots, x: &SlotArray) -> Result<Vec<i64>, Fail
     Ok(row)
 }
 
-/// Asserts that an array is printed as a text.
-pub fn assert_array<R: Abort + AllocGlobal>(rt: &R, x: &SlotArray, text: &str) -> Result<(), Fail> {
-    let printed = print_slots(rt.alloc(), x)?;
-    assert_eq!(rt; printed.as_slice(), text.as_bytes());
+/// Asserts that bytes are those of a spelling, in a row.
+pub fn assert_bytes<R: Abort + AllocGlobal>(
+    rt: &R,
+    bytes: &[u8],
+    spelling: &str,
+    row: &str,
+) -> Result<(), Fail> {
+    let wanted = text_of(rt.alloc(), spelling)?;
+    assert_eq!(rt; bytes, wanted.as_slice(), "{row}");
     Ok(())
 }
 
-/// Asserts that a polynomial has these coefficients, and that its slots are those of a text.
-pub fn assert_row<R: Abort + AllocGlobal>(
+/// Asserts that an array is printed as a spelling, in a row.
+pub fn assert_array<R: Abort + AllocGlobal>(
     rt: &R,
-    slots: &Slots,
-    row: &[i64],
-    wanted: &[i64],
-    text: &str,
+    x: &SlotArray,
+    spelling: &str,
+    row: &str,
 ) -> Result<(), Fail> {
-    assert_eq!(rt; row, wanted);
-    let cyclo = cyclo_of(rt, slots)?;
-    assert_eq!(rt; row.len(), cyclo.degree() as usize);
-    let array = slots.decode(rt.alloc(), row)?;
-    assert_array(rt, &array, text)
+    let printed = print_slots(rt.alloc(), x)?;
+    assert_bytes(rt, &printed, spelling, row)
 }

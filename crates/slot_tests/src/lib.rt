@@ -1,5 +1,6 @@
-//! Tests of slots: encoding, decoding and images of plaintexts, instructions on arrays, and the checks of the factor and of the dual
-//! basis. The expected values come from a plain program of the definitions, with whole numbers and schoolbook products.
+//! Tests of slots: arrays and their texts, encoding and decoding, the operations on plaintexts, the checks of the factor and of the
+//! dual basis, and programs. The expected values come from a plain program of the definitions, with whole numbers and schoolbook
+//! products.
 #![tactic(auto)]
 
 #[cfg(test)]
@@ -11,4 +12,12 @@ mod fixtures;
 #[cfg(test)]
 mod packings;
 #[cfg(test)]
+mod programs;
+#[cfg(test)]
+mod rows;
+#[cfg(test)]
+mod runs;
+#[cfg(test)]
 mod tables;
+#[cfg(test)]
+mod texts;
