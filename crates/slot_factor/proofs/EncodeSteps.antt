@@ -1,5 +1,5 @@
 -- Steps towards the polynomial that has given slots.
-use Rattle.std.proofs.Common.{◌≡◌, ℕ, zero, suc, ◌+◌, ◌<◌, List, [], ◌∷◌, map, length, get_or, replicate, pos, refl, sym, ap, ap₂, ◌∙◌, arith}
+use Rattle.std.proofs.Common.{◌≡◌, ℕ, zero, suc, ◌+◌, ◌%◌, ◌<◌, List, [], ◌∷◌, map, length, get_or, replicate, pos, refl, sym, subst, ap, ap₂, ◌∙◌, arith}
 use Rattle.std.specs.Prelude.{ℤ}
 use Rattle.std.proofs.Math.Numerals.{add-one}
 use Rattle.algebra.specs.Ring.{residues}
@@ -19,6 +19,7 @@ use Rattle.slot_laws.proofs.FoldSums.{substituted_fold}
 use Rattle.slot_laws.proofs.Roots.{unit_positive}
 use Rattle.slot_laws.proofs.SlotMaps.{m_positive, m_above}
 use Rattle.slot_laws.proofs.WholeValue.{p_positive}
+use Rattle.slot_factor.proofs.LazySteps.{reduced_fold}
 
 -- where a place is in, what stands for a place past the end does not count
 pub element_at : (xs : List (List ℕ)) (i : ℕ) (y : List ℕ) → i < length xs → y ≡ get_or xs i y → y ≡ get_or xs i []
@@ -70,6 +71,10 @@ module _ (f : Extension) (c : Torus) (P : IsPacking f c) where
       ∙ ap (λ a. residue_row f c ((R c.m).add (fold c.m s) (substituted c.m a (map pos r)))) k_is
       ∙ same-add f.p c.m p_pos m_pos (fold c.m s) (total (adds (R c.m)) j (image x)) (substituted c.m (k_of j) (map pos r)) (image x j) s_is (image_is x j y u r A l y_is u_is (r_is ∙ ap (λ z. times (residues z) y u) q_is))
       ∙ ap (λ n. residue_row f c (total (adds (R c.m)) n (image x))) (sym (add-one j))
+
+  -- the residues of what is summed up
+  pub encoded_reduced : (q : ℕ) → q ≡ f.p → 0 < q → (L M : List ℕ) → length M ≡ length L → ((i : ℕ) → get_or M i 0 ≡ get_or L i 0 % q) → residue_row f c (fold c.m (map pos M)) ≡ residue_row f c (fold c.m (map pos L))
+  encoded_reduced q q_is q_pos L M long h = subst (λ z. map (residue z) (fold c.m (map pos M)) ≡ map (residue z) (fold c.m (map pos L))) q_is (reduced_fold q c.m q_pos m_pos L M long h)
 
   pub encoded_is : (x : Array) (q m n : ℕ) (L : List ℕ) (r : List ℤ) → q ≡ f.p → m ≡ c.m → n ≡ slot_count c → r ≡ balanced_row q (fold m (map pos L)) → residue_row f c (fold c.m (map pos L)) ≡ residue_row f c (total (adds (R c.m)) n (λ j. placed f c (lifted f c (get_or x j [])) (index c.dimensions j))) → r ≡ encode f c x
   encoded_is x q m n L r q_is m_is n_is r_is s =

@@ -7,4 +7,5 @@ pub mod FaultSteps
 pub mod PackedSteps
 pub mod CubeJoin
 pub mod DecodeSteps
+pub mod LazySteps
 pub mod EncodeSteps

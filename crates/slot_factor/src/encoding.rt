@@ -7,7 +7,7 @@ ghost use Rattle.slot_array.specs.Arrays.{IsArray};
 ghost use Rattle.slot_laws.specs.Slots.{inverse_modulo, eps, encode};
 ghost use Rattle.slot_laws.specs.Checks.{IsPacking, residue_row};
 
-use crate::rows::{balanced_of, folded, placed_product};
+use crate::rows::{balanced_of, folded, placed_product, reduced};
 use cyclo_poly::Cyclo;
 use ext_field::{Ext, ExtElem};
 use hyper_cube::Cube;
@@ -43,7 +43,7 @@ pub(crate) fn encode(
         let coeffs = x[e as usize].coeffs();
         sums = placed_product(zq, m, inverses[e as usize] as usize, coeffs, unit, sums);
     }
-    let rest = folded(cyclo, zq, sums);
+    let rest = folded(cyclo, zq, reduced(zq, sums));
     let row = balanced_of(alloc, zq, &rest)?;
     Ok(row)
 }

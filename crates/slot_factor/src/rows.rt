@@ -1,5 +1,5 @@
 //! Rows of residues: of whole numbers, their sums and products, and a(X^k) by the places of its coefficients.
-ghost use Rattle.std.specs.Prelude.{◌≡◌, ◌+◌, ◌*◌, ◌<◌, ◌≤◌, ◌^◌, All, IfOk, length, map, pos};
+ghost use Rattle.std.specs.Prelude.{◌≡◌, ℕ, ◌+◌, ◌*◌, ◌%◌, ◌<◌, ◌≤◌, ◌^◌, All, IfOk, length, map, get_or, pos};
 ghost use Rattle.algebra.specs.Ring.{residues};
 ghost use Rattle.algebra.specs.Poly.{coeff, plus, negated, times};
 ghost use Rattle.algebra.specs.Whole.{residue};
@@ -7,7 +7,7 @@ ghost use Rattle.mod_ring.specs.Zq.{modulus_of};
 ghost use Rattle.cyclotomic.specs.Cyclotomic.{R, fold, substituted};
 ghost use Rattle.slot_laws.specs.Slots.{balanced_row};
 
-use crate::sums::next_place;
+use crate::sums::{add_lazily, next_place};
 use cyclo_poly::Cyclo;
 use mod_ring::Zq;
 use std::alloc::{AllocError, Global};
@@ -68,6 +68,24 @@ pub(crate) fn negated(alloc: Global, zq: &Zq, a: &[u64]) -> Result<Vec<u64>, All
     Ok(list)
 }
 
+/// The sum of the terms of coefficient i of a product, not reduced.
+fn terms_at(zq: &Zq, a: &[u64], b: &[u64], i: usize) -> u64
+    requires p_high { modulus_of zq.now < 2 ^ 17 }
+    requires a_few { length a.now ≤ 65537 }
+    requires b_few { length b.now ≤ 65537 }
+    requires i_in { i < length a.now + length b.now }
+    requires a_below { All (λ v. v < modulus_of zq.now) a.now }
+    requires b_below { All (λ v. v < modulus_of zq.now) b.now }
+    ensures value { result % modulus_of zq.now ≡ coeff (residues (modulus_of zq.now)) (times (residues (modulus_of zq.now)) a.now b.now) i }
+    ensures low { result < 2 ^ 62 }
+{
+    let mut sum: u64 = 0;
+    for j in (i + 1).saturating_sub(b.len())..a.len().min(i + 1) {
+        sum += a[j] * b[i - j];
+    }
+    sum
+}
+
 /// Coefficient i of a product.
 fn product_at(zq: &Zq, a: &[u64], b: &[u64], i: usize) -> u64
     requires p_high { modulus_of zq.now < 2 ^ 17 }
@@ -79,11 +97,7 @@ fn product_at(zq: &Zq, a: &[u64], b: &[u64], i: usize) -> u64
     ensures value { result ≡ coeff (residues (modulus_of zq.now)) (times (residues (modulus_of zq.now)) a.now b.now) i }
     ensures below { result < modulus_of zq.now }
 {
-    let mut sum: u64 = 0;
-    for j in (i + 1).saturating_sub(b.len())..a.len().min(i + 1) {
-        sum += a[j] * b[i - j];
-    }
-    sum % zq.modulus()
+    terms_at(zq, a, b, i) % zq.modulus()
 }
 
 /// The product of two rows.
@@ -129,7 +143,7 @@ pub(crate) fn placed(zq: &Zq, m: usize, k: usize, a: &[u64], sums: Vec<u64>) -> 
     sums
 }
 
-/// The m sums with (a b)(X^k) added: coefficient i of the product goes to the place i * k modulo m.
+/// The m sums with (a b)(X^k) added, up to multiples of p: coefficient i of the product goes to the place i * k modulo m.
 pub(crate) fn placed_product(
     zq: &Zq,
     m: usize,
@@ -149,20 +163,33 @@ pub(crate) fn placed_product(
     requires long { length sums.items ≡ m }
     requires a_below { All (λ v. v < modulus_of zq.now) a.now }
     requires b_below { All (λ v. v < modulus_of zq.now) b.now }
-    requires below { All (λ v. v < modulus_of zq.now) sums.items }
+    requires room { All (λ v. v < 2 ^ 62) sums.items }
     ensures value { map (residue (modulus_of zq.now)) (fold m (map pos result.items))
         ≡ map (residue (modulus_of zq.now)) ((R m).add (fold m (map pos sums.items))
         (substituted m k (map pos (times (residues (modulus_of zq.now)) a.now b.now)))) }
     ensures long { length result.items ≡ m }
-    ensures below { All (λ v. v < modulus_of zq.now) result.items }
+    ensures room { All (λ v. v < 2 ^ 62) result.items }
 {
     let step = k % m;
     let mut place = 0;
     let mut sums = sums;
     for i in 0..a.len() + b.len() - 1 {
-        let term = product_at(zq, a, b, i);
-        sums[place] = zq.add_word(sums[place], term);
+        let term = terms_at(zq, a, b, i);
+        sums[place] = add_lazily(zq.modulus(), sums[place], term);
         place = next_place(place, step, m);
+    }
+    sums
+}
+
+/// The residue of each sum.
+pub(crate) fn reduced(zq: &Zq, sums: Vec<u64>) -> Vec<u64>
+    ensures value { (i : ℕ) → get_or result.items i 0 ≡ get_or sums.items i 0 % modulus_of zq.now }
+    ensures long { length result.items ≡ length sums.items }
+{
+    let q = zq.modulus();
+    let mut sums = sums;
+    for i in 0..sums.len() {
+        sums[i] %= q;
     }
     sums
 }

@@ -24,6 +24,19 @@ pub(crate) fn reduce(p: u64, sums: &mut [u64])
     }
 }
 
+/// The sum of two words up to a multiple of p: reduced only where it would grow too large.
+pub(crate) fn add_lazily(p: u64, a: u64, b: u64) -> u64
+    requires p_low { 0 < p }
+    requires p_high { p < 2 ^ 62 }
+    requires a_low { a < 2 ^ 62 }
+    requires b_low { b < 2 ^ 62 }
+    ensures value { result % p ≡ (a + b) % p }
+    ensures low { result < 2 ^ 62 }
+{
+    let sum = a + b;
+    if sum < 1 << 62 { sum } else { sum % p }
+}
+
 /// The place further on by a step, around m places.
 pub(crate) fn next_place(place: usize, step: usize, m: usize) -> usize
     requires place_in { place < m }

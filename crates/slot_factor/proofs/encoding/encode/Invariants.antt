@@ -1,7 +1,6 @@
-use Rattle.std.proofs.Common.{◌≡◌, ◌<◌, [], map, length, get_or, pos}
+use Rattle.std.proofs.Common.{◌≡◌, ◌<◌, ◌^◌, [], map, length, get_or, pos}
 use Rattle.std.specs.List.{All}
 use Rattle.algebra.specs.Range.{total, adds}
-use Rattle.mod_ring.specs.Zq.{modulus_of}
 use Rattle.cyclotomic.specs.Cyclotomic.{R, fold}
 use Rattle.hyper_cube.specs.Torus.{index}
 use Rattle.slot_laws.specs.Slots.{lifted, placed}
@@ -13,5 +12,5 @@ invariant-loop-e l =
     record {
       value : residue_row l.ext l.cube (fold l.cube.m (map pos l.sums.items)) ≡ residue_row l.ext l.cube (total (adds (R l.cube.m)) l.e (λ j. placed l.ext l.cube (lifted l.ext l.cube (get_or l.x j [])) (index l.cube.dimensions j)));
       long : length l.sums.items ≡ l.m;
-      below : All (λ v. v < modulus_of l.zq) l.sums.items;
+      room : All (λ v. v < 2 ^ 62) l.sums.items;
     }

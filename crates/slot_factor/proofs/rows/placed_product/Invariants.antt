@@ -1,4 +1,4 @@
-use Rattle.std.proofs.Common.{◌≡◌, ◌<◌, ◌*◌, ◌%◌, map, length, pos}
+use Rattle.std.proofs.Common.{◌≡◌, ◌<◌, ◌*◌, ◌%◌, ◌^◌, map, length, pos}
 use Rattle.std.specs.List.{All}
 use Rattle.mod_ring.specs.Zq.{modulus_of}
 use Rattle.algebra.specs.Poly.{times}
@@ -14,7 +14,7 @@ invariant-loop-i l =
     record {
       value : map (residue (modulus_of l.zq)) (fold l.m (map pos l.sums.items)) ≡ map (residue (modulus_of l.zq)) ((R l.m).add (fold l.m (map pos l.fn.sums.items)) (total (adds (R l.m)) l.i (place_term l.m l.k (map pos (times (residues (modulus_of l.zq)) l.a l.b)))));
       long : length l.sums.items ≡ l.m;
-      below : All (λ v. v < modulus_of l.zq) l.sums.items;
+      room : All (λ v. v < 2 ^ 62) l.sums.items;
       place : l.place ≡ (l.i * l.k) % l.m;
       within : l.place < l.m;
     }

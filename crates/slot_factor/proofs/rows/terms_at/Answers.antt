@@ -1,7 +1,7 @@
 use Rattle.std.proofs.Common.{◌-◌, arith, refl}
 use Rattle.mod_ring.specs.Zq.{modulus_of}
 use Rattle.slot_factor.proofs.RowSteps.{terms_before, term_more, sum_small, product_coefficient}
-use Rattle.slot_factor.proofs.rows.product_at.Goals as goal
+use Rattle.slot_factor.proofs.rows.terms_at.Goals as goal
 
 pub loop-j-init : goal.loop-j-init
 loop-j-init c = record {
@@ -18,4 +18,4 @@ loop-j-preserved c =
     }
 
 pub returns-clause-value : goal.returns-clause-value
-returns-clause-value c = product_coefficient (modulus_of c.args.zq.now) (omega (arith, c.args.zq.now.in_range)) c.args.a.now c.args.b.now c.requires.a_below c.requires.b_below c.args.i c.loop-j.j c.loop-j.sum c.modulus.result c.modulus.ensures (omega (arith, c.min-j-end.ensures, c.saturating_sub-j.ensures, c.requires.i_in, c.loop-j-test.false, c.loop-j.auto.j-end)) c.loop-j.invariant.value
+returns-clause-value c = product_coefficient (modulus_of c.args.zq.now) (omega (arith, c.args.zq.now.in_range)) c.args.a.now c.args.b.now c.requires.a_below c.requires.b_below c.args.i c.loop-j.j c.loop-j.sum (modulus_of c.args.zq.now) refl (omega (arith, c.min-j-end.ensures, c.saturating_sub-j.ensures, c.requires.i_in, c.loop-j-test.false, c.loop-j.auto.j-end)) c.loop-j.invariant.value

@@ -1,6 +1,6 @@
 use Rattle.std.proofs.Common.{◌≡◌, ◌≤◌, ◌*◌, ◌-◌, ◌^◌, get_or}
 use Rattle.algebra.specs.Range.{total, counts}
-use Rattle.slot_factor.proofs.rows.product_at.Given as goal
+use Rattle.slot_factor.proofs.rows.terms_at.Given as goal
 
 abbrev pub invariant-loop-j : goal.invariant-loop-j
 invariant-loop-j l =
